@@ -1,0 +1,4 @@
+pub mod Identifier
+pub mod Answers
+pub mod Format
+pub mod Settled

@@ -1,0 +1,12 @@
+pub mod Truth
+pub mod Stations
+pub mod Scan
+pub mod Held
+pub mod Rules
+pub mod Laws
+pub mod HearerCount
+pub mod DifferentMeters
+pub mod AfterEnrolment
+pub mod Kept
+pub mod ShortAddresses
+pub mod NoSecondAnswer

@@ -1,0 +1,5 @@
+pub mod Stations
+pub mod Rows
+pub mod Table
+pub mod Answers
+pub mod Columns
