@@ -1,0 +1,6 @@
+pub mod Same
+pub mod Places
+pub mod ByNumber
+pub mod Arms
+pub mod Parts
+pub mod Settled
