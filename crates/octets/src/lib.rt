@@ -64,8 +64,22 @@ pub fn is_there(len: usize, at: usize, n: usize) -> bool
     true
 }
 
-// n bytes that are there, from the first on.
+// n bytes that are there. Eight are read as two numbers of four: each of these is one load.
 fn big_of(s: &[u8], at: usize, n: usize) -> u64
+    requires { ⌜ (n ≤ 8) × (at + n ≤ length (now s)) ⌝ }
+    ensures { λ r. ⌜ r ≡ bigAt (now (s .entry)) at n ⌝ }
+    ensures width { λ r. ⌜ r < 256 ^ n ⌝ }
+{
+    if n == 8 {
+        let high = big_run(s, at, 4);
+        let low = big_run(s, at + 4, 4);
+        return high * 0x1_0000_0000 + low;
+    }
+    big_run(s, at, n)
+}
+
+// n bytes that are there, from the first on.
+fn big_run(s: &[u8], at: usize, n: usize) -> u64
     requires { ⌜ (n ≤ 8) × (at + n ≤ length (now s)) ⌝ }
     ensures { λ r. ⌜ r ≡ bigAt (now (s .entry)) at n ⌝ }
     ensures width { λ r. ⌜ r < 256 ^ n ⌝ }

@@ -2,10 +2,10 @@
 -- Assumes nothing.
 use mathlib.Core.Path.{_≡_, refl, sym, ap, _∙_}
 use mathlib.Core.Bool.{Bool, true, false, not, _&&_}
-use Prim.Native.Nat.{ℕ, _+_, _-_, _^_, _%_, _≤_, _<_, min}
+use Prim.Native.Nat.{ℕ, _+_, _-_, _%_, _≤_, _<_, min}
 use native.Mathlib.Omega.{arith}
-use borrow.Author.Tests.{eqb-true, eqb-false}
 use lib.Dec.{T, eqb, eqb→eq}
+use borrow.Author.Tests.{ne-eqb}
 use Rattle.octets.specs.Choice.{either}
 use Rattle.octets.proofs.Ranges.{all, ranged, is-true, is-false, both-left, both-right}
 use Rattle.element.proofs.Leads.{head-wide, head-more}
@@ -84,176 +84,124 @@ module _ (h g : Head) where
 abbrev pub row : Shape → ℕ → ℕ → Head
 row h w m = record { shape = h; wide = w; more = m }
 
--- the heads of a range of lead bytes, by a formula
-in-range : (f : ℕ → Head) (lo n : ℕ) → T (all (λ k. sameHead (f k) (headOf k)) lo n) → (b : ℕ) → lo ≤ b → b < lo + n → f b ≡ headOf b
-in-range f lo n t b g h = same-head (f b) (headOf b) (ranged (λ k. sameHead (f k) (headOf k)) lo n t b g h)
-
-module _ (b : ℕ) where
-  head-low : b < 0x80 → row Plain 0 0 ≡ headOf b
-  unfolding headOf leadBytes rowIn
-  head-low h = in-range (λ k. row Plain 0 0) 0 0x80 tt b (omega arith) (omega arith)
-
-  head-high : 0xE0 ≤ b → b < 256 → row Plain 0 0 ≡ headOf b
-  unfolding headOf leadBytes rowIn
-  head-high g h = in-range (λ k. row Plain 0 0) 0xE0 0x20 tt b g (omega arith)
-
-  pub head-fixmap : 0x80 ≤ b → b < 0x90 → row Map 0 (b - 0x80) ≡ headOf b
-  unfolding headOf leadBytes rowIn
-  head-fixmap g h = in-range (λ k. row Map 0 (k - 0x80)) 0x80 0x10 tt b g (omega arith)
-
-  head-fixarray : 0x90 ≤ b → b < 0xA0 → row Array 0 (b - 0x90) ≡ headOf b
-  unfolding headOf leadBytes rowIn
-  head-fixarray g h = in-range (λ k. row Array 0 (k - 0x90)) 0x90 0x10 tt b g (omega arith)
-
-  head-fixtext : 0xA0 ≤ b → b < 0xC0 → row Text 0 (b - 0xA0) ≡ headOf b
-  unfolding headOf leadBytes rowIn
-  head-fixtext g h = in-range (λ k. row Text 0 (k - 0xA0)) 0xA0 0x20 tt b g (omega arith)
-
-  head-never : b ≡ 0xC1 → row Never 0 0 ≡ headOf b
-  unfolding headOf leadBytes rowIn
-  head-never e = in-range (λ k. row Never 0 0) 0xC1 1 tt b (omega arith) (omega arith)
-
-  head-nil : b ≡ 0xC0 → row Plain 0 0 ≡ headOf b
-  unfolding headOf leadBytes rowIn
-  head-nil e = in-range (λ k. row Plain 0 0) 0xC0 1 tt b (omega arith) (omega arith)
-
-  head-bool : 0xC2 ≤ b → b < 0xC4 → row Plain 0 0 ≡ headOf b
-  unfolding headOf leadBytes rowIn
-  head-bool g h = in-range (λ k. row Plain 0 0) 0xC2 2 tt b g (omega arith)
-
-  head-bin : 0xC4 ≤ b → b < 0xC7 → row Plain (twoTo (b - 0xC4)) 0 ≡ headOf b
-  unfolding headOf leadBytes rowIn
-  head-bin g h = in-range (λ k. row Plain (twoTo (k - 0xC4)) 0) 0xC4 3 tt b g (omega arith)
-
-  head-ext : 0xC7 ≤ b → b < 0xCA → row Plain (twoTo (b - 0xC7)) 1 ≡ headOf b
-  unfolding headOf leadBytes rowIn
-  head-ext g h = in-range (λ k. row Plain (twoTo (k - 0xC7)) 1) 0xC7 3 tt b g (omega arith)
-
-  head-number : 0xCA ≤ b → b < 0xD4 → row Plain 0 (twoTo (b % 4)) ≡ headOf b
-  unfolding headOf leadBytes rowIn
-  head-number g h = in-range (λ k. row Plain 0 (twoTo (k % 4))) 0xCA 10 tt b g (omega arith)
-
-  head-fixext : 0xD4 ≤ b → b < 0xD9 → row Plain 0 (1 + twoTo (b - 0xD4)) ≡ headOf b
-  unfolding headOf leadBytes rowIn
-  head-fixext g h = in-range (λ k. row Plain 0 (1 + twoTo (k - 0xD4))) 0xD4 5 tt b g (omega arith)
-
-  head-text : 0xD9 ≤ b → b < 0xDC → row Text (twoTo (b - 0xD9)) 0 ≡ headOf b
-  unfolding headOf leadBytes rowIn
-  head-text g h = in-range (λ k. row Text (twoTo (k - 0xD9)) 0) 0xD9 3 tt b g (omega arith)
-
-  head-array : 0xDC ≤ b → b < 0xDE → row Array (twoTo (b - 0xDB)) 0 ≡ headOf b
-  unfolding headOf leadBytes rowIn
-  head-array g h = in-range (λ k. row Array (twoTo (k - 0xDB)) 0) 0xDC 2 tt b g (omega arith)
-
-  head-map : 0xDE ≤ b → b < 0xE0 → row Map (twoTo (b - 0xDD)) 0 ≡ headOf b
-  unfolding headOf leadBytes rowIn
-  head-map g h = in-range (λ k. row Map (twoTo (k - 0xDD)) 0) 0xDE 2 tt b g (omega arith)
+-- the heads of the n lead bytes from lo on, by a formula f
+says-in : (f : ℕ → Head) (lo n : ℕ) → T (all (λ k. sameHead (f k) (headOf k)) lo n) → (b : ℕ) → lo ≤ b → b < lo + n → (r : Head) → r ≡ f b → Says b r
+says-in f lo n t b g h r e =
+    rw (e ∙ same-head (f b) (headOf b) (ranged (λ k. sameHead (f k) (headOf k)) lo n t b g h))
+    (record { is = refl; wide = head-wide b; more = head-more b })
 
 -- the answers of the code
-says : (b : ℕ) (r : Head) → r ≡ headOf b → Says b r
-says b r e = rw e (record { is = refl; wide = head-wide b; more = head-more b })
-
 module _ (b : ℕ) (r : Head) where
   pub says-low : r ≡ row Plain 0 0 → b < 0x80 → Says b r
-  says-low e h = says b r (e ∙ head-low b h)
+  unfolding headOf leadBytes rowIn
+  says-low e h = says-in (λ k. row Plain 0 0) 0 0x80 tt b (omega arith) (omega arith) r e
 
   pub says-high : r ≡ row Plain 0 0 → 0xE0 ≤ b → b < 256 → Says b r
-  says-high e g f = says b r (e ∙ head-high b g f)
+  unfolding headOf leadBytes rowIn
+  says-high e g h = says-in (λ k. row Plain 0 0) 0xE0 0x20 tt b g (omega arith) r e
 
   pub says-nil : r ≡ row Plain 0 0 → 0xC0 ≤ b → b < 0xC4 → (b ≡ 0xC1 → ⊥) → Says b r
-  says-nil e g h n = says b r (e ∙ go (eqb b 0xC0) refl)
-    where
-      go : (t : Bool) → eqb b 0xC0 ≡ t → row Plain 0 0 ≡ headOf b
-      go true t = head-nil b (eqb-true b 0xC0 t)
-      go false t =
-          let m : b ≡ 0xC0 → ⊥ = eqb-false b 0xC0 t in
-          head-bool b (omega arith) h
+  unfolding headOf leadBytes rowIn
+  says-nil e g h n =
+      says-in (λ k. row (either (eqb k 0xC1) (λ _. Never) (λ _. Plain)) 0 0) 0xC0 4 tt b g (omega arith) r (e ∙ simp (ne-eqb b 0xC1 n))
 
 module _ (b : ℕ) where
   pub says-fixmap : 0x80 ≤ b → b < 0x90 → Says b (row Map 0 (b - 0x80))
-  says-fixmap g h = says b _ (head-fixmap b g h)
+  unfolding headOf leadBytes rowIn
+  says-fixmap g h = says-in (λ k. row Map 0 (k - 0x80)) 0x80 0x10 tt b g (omega arith) _ refl
 
   pub says-fixarray : 0x90 ≤ b → b < 0xA0 → Says b (row Array 0 (b - 0x90))
-  says-fixarray g h = says b _ (head-fixarray b g h)
+  unfolding headOf leadBytes rowIn
+  says-fixarray g h = says-in (λ k. row Array 0 (k - 0x90)) 0x90 0x10 tt b g (omega arith) _ refl
 
   pub says-fixtext : 0xA0 ≤ b → b < 0xC0 → Says b (row Text 0 (b - 0xA0))
-  says-fixtext g h = says b _ (head-fixtext b g h)
+  unfolding headOf leadBytes rowIn
+  says-fixtext g h = says-in (λ k. row Text 0 (k - 0xA0)) 0xA0 0x20 tt b g (omega arith) _ refl
 
   pub says-never : b ≡ 0xC1 → Says b (row Never 0 0)
-  says-never e = says b _ (head-never b e)
+  unfolding headOf leadBytes rowIn
+  says-never e = says-in (λ k. row Never 0 0) 0xC1 1 tt b (omega arith) (omega arith) _ refl
 
 module _ (b t : ℕ) (r : Head) where
   pub says-bin : r ≡ row Plain t 0 → t ≡ twoTo (b - 0xC4) → 0xC4 ≤ b → b < 0xC7 → Says b r
-  says-bin e u g h = says b r (e ∙ rw u (head-bin b g h))
+  unfolding headOf leadBytes rowIn
+  says-bin e u g h = says-in (λ k. row Plain (twoTo (k - 0xC4)) 0) 0xC4 3 tt b g (omega arith) r (rw u at e)
 
   pub says-ext : r ≡ row Plain t 1 → t ≡ twoTo (b - 0xC7) → 0xC7 ≤ b → b < 0xCA → Says b r
-  says-ext e u g h = says b r (e ∙ rw u (head-ext b g h))
+  unfolding headOf leadBytes rowIn
+  says-ext e u g h = says-in (λ k. row Plain (twoTo (k - 0xC7)) 1) 0xC7 3 tt b g (omega arith) r (rw u at e)
 
   pub says-number : r ≡ row Plain 0 t → t ≡ twoTo (b % 4) → 0xCA ≤ b → b < 0xD4 → Says b r
-  says-number e u g h = says b r (e ∙ rw u (head-number b g h))
+  unfolding headOf leadBytes rowIn
+  says-number e u g h = says-in (λ k. row Plain 0 (twoTo (k % 4))) 0xCA 10 tt b g (omega arith) r (rw u at e)
 
   pub says-fixext : r ≡ row Plain 0 (1 + t) → t ≡ twoTo (b - 0xD4) → 0xD4 ≤ b → b < 0xD9 → Says b r
-  says-fixext e u g h = says b r (e ∙ rw u (head-fixext b g h))
+  unfolding headOf leadBytes rowIn
+  says-fixext e u g h = says-in (λ k. row Plain 0 (1 + twoTo (k - 0xD4))) 0xD4 5 tt b g (omega arith) r (rw u at e)
 
 module _ (b t : ℕ) where
   pub says-text : t ≡ twoTo (b - 0xD9) → 0xD9 ≤ b → b < 0xDC → Says b (row Text t 0)
-  says-text u g h = says b _ (rw u (head-text b g h))
+  unfolding headOf leadBytes rowIn
+  says-text u g h = says-in (λ k. row Text (twoTo (k - 0xD9)) 0) 0xD9 3 tt b g (omega arith) _ (rw u)
 
   pub says-array : t ≡ twoTo (b - 0xDB) → 0xDC ≤ b → b < 0xDE → Says b (row Array t 0)
-  says-array u g h = says b _ (rw u (head-array b g h))
+  unfolding headOf leadBytes rowIn
+  says-array u g h = says-in (λ k. row Array (twoTo (k - 0xDB)) 0) 0xDC 2 tt b g (omega arith) _ (rw u)
 
   pub says-map : t ≡ twoTo (b - 0xDD) → 0xDE ≤ b → b < 0xE0 → Says b (row Map t 0)
-  says-map u g h = says b _ (rw u (head-map b g h))
+  unfolding headOf leadBytes rowIn
+  says-map u g h = says-in (λ k. row Map (twoTo (k - 0xDD)) 0) 0xDE 2 tt b g (omega arith) _ (rw u)
 
 pub ruleset sayings = (says-low, says-high, says-nil, says-fixmap, says-fixarray, says-fixtext, says-never, says-bin, says-ext, says-number, says-fixext, says-text, says-array, says-map)
 
--- the tests for texts and maps
-abbrev textLead : ℕ → Bool
-textLead b = isText (headOf b .shape)
+-- the tests for texts and maps, by ranges
+module _ (f : Shape → Bool) (lo n : ℕ) where
+  passes-in : T (all (λ k. f (headOf k .shape)) lo n) → (b : ℕ) → lo ≤ b → b < lo + n → true ≡ f (headOf b .shape)
+  passes-in t b g h = is-true (f (headOf b .shape)) (ranged (λ k. f (headOf k .shape)) lo n t b g h)
 
-abbrev mapLead : ℕ → Bool
-mapLead b = isMap (headOf b .shape)
+  fails-in : T (all (λ k. not (f (headOf k .shape))) lo n) → (b : ℕ) → lo ≤ b → b < lo + n → false ≡ f (headOf b .shape)
+  fails-in t b g h = is-false (f (headOf b .shape)) (ranged (λ k. not (f (headOf k .shape))) lo n t b g h)
 
 module _ (b : ℕ) where
   pub text-low : b < 0xA0 → false ≡ isText (headOf b .shape)
   unfolding headOf leadBytes rowIn
-  text-low h = is-false (textLead b) (ranged (λ k. not (textLead k)) 0 0xA0 tt b (omega arith) (omega arith))
+  text-low h = fails-in isText 0 0xA0 tt b (omega arith) (omega arith)
 
   pub text-fix : 0xA0 ≤ b → b < 0xC0 → true ≡ isText (headOf b .shape)
   unfolding headOf leadBytes rowIn
-  text-fix g h = is-true (textLead b) (ranged (λ k. textLead k) 0xA0 0x20 tt b g (omega arith))
+  text-fix g h = passes-in isText 0xA0 0x20 tt b g (omega arith)
 
   pub text-mark : 0xC0 ≤ b → b < 0xD9 → false ≡ isText (headOf b .shape)
   unfolding headOf leadBytes rowIn
-  text-mark g h = is-false (textLead b) (ranged (λ k. not (textLead k)) 0xC0 0x19 tt b g (omega arith))
+  text-mark g h = fails-in isText 0xC0 0x19 tt b g (omega arith)
 
   pub text-long : 0xD9 ≤ b → b < 0xDC → true ≡ isText (headOf b .shape)
   unfolding headOf leadBytes rowIn
-  text-long g h = is-true (textLead b) (ranged (λ k. textLead k) 0xD9 3 tt b g (omega arith))
+  text-long g h = passes-in isText 0xD9 3 tt b g (omega arith)
 
   pub text-high : 0xDC ≤ b → b < 256 → false ≡ isText (headOf b .shape)
   unfolding headOf leadBytes rowIn
-  text-high g h = is-false (textLead b) (ranged (λ k. not (textLead k)) 0xDC 0x24 tt b g (omega arith))
+  text-high g h = fails-in isText 0xDC 0x24 tt b g (omega arith)
 
   pub map-low : b < 0x80 → false ≡ isMap (headOf b .shape)
   unfolding headOf leadBytes rowIn
-  map-low h = is-false (mapLead b) (ranged (λ k. not (mapLead k)) 0 0x80 tt b (omega arith) (omega arith))
+  map-low h = fails-in isMap 0 0x80 tt b (omega arith) (omega arith)
 
   pub map-fix : 0x80 ≤ b → b < 0x90 → true ≡ isMap (headOf b .shape)
   unfolding headOf leadBytes rowIn
-  map-fix g h = is-true (mapLead b) (ranged (λ k. mapLead k) 0x80 0x10 tt b g (omega arith))
+  map-fix g h = passes-in isMap 0x80 0x10 tt b g (omega arith)
 
   pub map-mid : 0x90 ≤ b → b < 0xDE → false ≡ isMap (headOf b .shape)
   unfolding headOf leadBytes rowIn
-  map-mid g h = is-false (mapLead b) (ranged (λ k. not (mapLead k)) 0x90 0x4E tt b g (omega arith))
+  map-mid g h = fails-in isMap 0x90 0x4E tt b g (omega arith)
 
   pub map-long : 0xDE ≤ b → b < 0xE0 → true ≡ isMap (headOf b .shape)
   unfolding headOf leadBytes rowIn
-  map-long g h = is-true (mapLead b) (ranged (λ k. mapLead k) 0xDE 2 tt b g (omega arith))
+  map-long g h = passes-in isMap 0xDE 2 tt b g (omega arith)
 
   pub map-high : 0xE0 ≤ b → b < 256 → false ≡ isMap (headOf b .shape)
   unfolding headOf leadBytes rowIn
-  map-high g h = is-false (mapLead b) (ranged (λ k. not (mapLead k)) 0xE0 0x20 tt b g (omega arith))
+  map-high g h = fails-in isMap 0xE0 0x20 tt b g (omega arith)
 
 pub ruleset texts = (text-low, text-fix, text-mark, text-long, text-high)
 

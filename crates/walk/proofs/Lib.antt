@@ -1,3 +1,7 @@
 pub mod Leads
-pub mod Shorts
+pub mod Sizes
+pub mod Quick
+pub mod Elements
 pub mod Turns
+pub mod Outermost
+pub mod Settled

@@ -46,6 +46,34 @@ pub fn element(s: &[u8], at: usize, count: usize, left: usize, key: bool) -> Ste
     }
 }
 
+// The key at a place, without a call where its lead byte tells of it.
+pub fn key(s: &[u8], at: usize, count: usize, left: usize) -> Step
+    ensures { λ r. ⌜ r ≡ elementOf (now (s .entry)) left Role.key at count ⌝ }
+{
+    let y = quick_key(s, at, count, left);
+    if y == 0 {
+        return element(s, at, count, left, true);
+    }
+    Step::Next {
+        at: at + y,
+        count: count + 1,
+    }
+}
+
+// The value or part at a place, without a call where its lead byte tells of it.
+pub fn value(s: &[u8], at: usize, count: usize, left: usize) -> Step
+    ensures { λ r. ⌜ r ≡ elementOf (now (s .entry)) left Role.value at count ⌝ }
+{
+    let z = quick_value(s, at, count, left);
+    if is_short(z) {
+        return Step::Next {
+            at: at + z,
+            count: count + 1,
+        };
+    }
+    held(s, at, count, left, z)
+}
+
 // The n parts of an array from a place on.
 pub fn values(s: &[u8], at: usize, count: usize, left: usize, n: usize) -> Step
     ensures { λ r. ⌜ r ≡ itemsOf (now (s .entry)) left false n at count ⌝ }

@@ -1,47 +1,35 @@
-use native.Mathlib.Omega.{arith}
+-- `fault` meets its contract: its tests are the definition's, in its order. Assumes nothing.
 use borrow.Author.Needs.{needs}
-use Rattle.walk.proofs.Turns.{faults, bodies, lengths, spans, outers, walks}
+use Rattle.walk.proofs.Elements.{faults}
 use Rattle.walk.proofs.steps.fault.Statement.{statement}
 use Rattle.walk.proofs.steps.fault.Tie as tie
-use Rattle.walk.proofs.steps.fault.Reads as reads
-use Rattle.walk.proofs.steps.fault.Lts as lts
-use Rattle.walk.proofs.lead.is_text.Reads as is-text-reads
 
--- src/steps.rt:129:9
 returns : tie.Need-returns
-returns c = search (faults, bodies, spans, outers, walks, needs)
+returns c = search faults
 
--- src/steps.rt:131:13
 shared-slice-read-b : tie.Need-shared-slice-read-b
 shared-slice-read-b c = search needs
 
--- src/steps.rt:133:9
 returns-2 : tie.Need-returns-2
-returns-2 c = search (faults, bodies, spans, outers, walks, needs)
+returns-2 c = search faults
 
--- src/steps.rt:136:9
 returns-3 : tie.Need-returns-3
-returns-3 c = search (faults, bodies, spans, outers, walks, needs)
+returns-3 c = search faults
 
--- src/steps.rt:139:9
 returns-4 : tie.Need-returns-4
-returns-4 c = search (faults, bodies, spans, outers, walks, needs)
+returns-4 c = search faults
 
--- src/steps.rt:142:12
 is-text-requires : tie.Need-is-text-requires
 is-text-requires c κs = search needs
 
--- src/steps.rt:125:1
 returns-5 : tie.Need-returns-5
-returns-5 c = search (faults, bodies, spans, outers, walks, needs)
+returns-5 c = search faults
 
--- src/steps.rt:125:1
 returns-6 : tie.Need-returns-6
-returns-6 c = search (faults, bodies, spans, outers, walks, needs)
+returns-6 c = search faults
 
--- src/steps.rt:125:1
 returns-7 : tie.Need-returns-7
-returns-7 c = search (faults, bodies, spans, outers, walks, needs)
+returns-7 c = search faults
 
 pub fault-spec : {M : Type 1} → statement M
 fault-spec =

@@ -12,19 +12,19 @@ claims t = (element-below t, element.Post)
 
 module _ (t : ℕ) where
   pub element-requires : lts.Need-element-requires (claims t) (any-pair-at t) any-pair.Post
-  element-requires c κs = search (items, needs)
+  element-requires c κs = search needs
 
   pub enum-known-p : lts.Need-enum-known-p (claims t) (any-pair-at t) any-pair.Post
-  enum-known-p c = search (items, needs)
+  enum-known-p c = search needs
 
   pub element-requires-2 : lts.Need-element-requires-2 (claims t) (any-pair-at t) any-pair.Post
-  element-requires-2 c κs = search (items, needs)
+  element-requires-2 c κs = search needs
 
   pub enum-known-number : lts.Need-enum-known-number (claims t) (any-pair-at t) any-pair.Post
-  enum-known-number c = search (items, needs)
+  enum-known-number c = search needs
 
   pub returns : lts.Need-returns (claims t) (any-pair-at t) any-pair.Post
-  returns c = search (items, needs)
+  returns c = search items
 
   pub returns-2 : lts.Need-returns-2 (claims t) (any-pair-at t) any-pair.Post
-  returns-2 c = search (items, needs)
+  returns-2 c = search items

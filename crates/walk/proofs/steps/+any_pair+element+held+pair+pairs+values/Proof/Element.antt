@@ -7,7 +7,7 @@ use Rattle.walk.proofs.steps.pairs.Reads as pairs
 use Rattle.walk.proofs.steps.span_at.Reads as span-at-reads
 use Rattle.walk.proofs.steps.values.Reads as values
 use Rattle.walk.proofs.steps.+any_pair+element+held+pair+pairs+values.Lts-element as lts
-use Rattle.walk.proofs.Turns.{elements}
+use Rattle.walk.proofs.Elements.{elements}
 use Rattle.walk.proofs.steps.+any_pair+element+held+pair+pairs+values.Proof.Measures.{element-at, pairs-below, values-below}
 
 abbrev pub claims : ℕ → lts.Claims
@@ -21,7 +21,7 @@ module _ (t : ℕ) where
   returns c = search elements
 
   pub span-at-requires : lts.Need-span-at-requires (claims t) (element-at t) element.Post
-  span-at-requires c κs = search (elements, needs)
+  span-at-requires c κs = search elements
 
   pub enum-told : lts.Need-enum-told (claims t) (element-at t) element.Post
   enum-told c = search needs
@@ -30,28 +30,28 @@ module _ (t : ℕ) where
   enum-known-next c = search needs
 
   pub add-t14 : lts.Need-add-t14 (claims t) (element-at t) element.Post
-  add-t14 c = search (elements, needs)
+  add-t14 c = search elements
 
   pub enum-known-from : lts.Need-enum-known-from (claims t) (element-at t) element.Post
   enum-known-from c = search needs
 
   pub add-pairs : lts.Need-add-pairs (claims t) (element-at t) element.Post
-  add-pairs c = search (elements, needs)
+  add-pairs c = search elements
 
   pub sub-pairs : lts.Need-sub-pairs (claims t) (element-at t) element.Post
-  sub-pairs c = search (elements, needs)
+  sub-pairs c = search elements
 
   pub pairs-requires : lts.Need-pairs-requires (claims t) (element-at t) element.Post
-  pairs-requires c κs = search (elements, needs)
+  pairs-requires c κs = search elements
 
   pub add-values : lts.Need-add-values (claims t) (element-at t) element.Post
-  add-values c = search (elements, needs)
+  add-values c = search elements
 
   pub sub-values : lts.Need-sub-values (claims t) (element-at t) element.Post
-  sub-values c = search (elements, needs)
+  sub-values c = search elements
 
   pub values-requires : lts.Need-values-requires (claims t) (element-at t) element.Post
-  values-requires c κs = search (elements, needs)
+  values-requires c κs = search elements
 
   pub returns-2 : lts.Need-returns-2 (claims t) (element-at t) element.Post
   returns-2 c = search elements

@@ -14,40 +14,40 @@ claims t = (element-below t, element.Post, pairs-below t, pairs.Post, values-bel
 
 module _ (t : ℕ) where
   pub element-requires : lts.Need-element-requires (claims t) (held-at t) held.Post
-  element-requires c κs = search (items, needs)
+  element-requires c κs = search needs
 
   pub returns : lts.Need-returns (claims t) (held-at t) held.Post
-  returns c = search (items, needs)
+  returns c = search needs
 
   pub add-pairs : lts.Need-add-pairs (claims t) (held-at t) held.Post
-  add-pairs c = search (items, needs)
+  add-pairs c = search needs
 
   pub add-pairs-2 : lts.Need-add-pairs-2 (claims t) (held-at t) held.Post
-  add-pairs-2 c = search (items, needs)
+  add-pairs-2 c = search needs
 
   pub sub-pairs : lts.Need-sub-pairs (claims t) (held-at t) held.Post
-  sub-pairs c = search (items, needs)
+  sub-pairs c = search needs
 
   pub sub-pairs-2 : lts.Need-sub-pairs-2 (claims t) (held-at t) held.Post
-  sub-pairs-2 c = search (items, needs)
+  sub-pairs-2 c = search items
 
   pub pairs-requires : lts.Need-pairs-requires (claims t) (held-at t) held.Post
-  pairs-requires c κs = search (items, needs)
+  pairs-requires c κs = search needs
 
   pub returns-2 : lts.Need-returns-2 (claims t) (held-at t) held.Post
-  returns-2 c = search (items, needs)
+  returns-2 c = search items
 
   pub add-values : lts.Need-add-values (claims t) (held-at t) held.Post
-  add-values c = search (items, needs)
+  add-values c = search needs
 
   pub add-values-2 : lts.Need-add-values-2 (claims t) (held-at t) held.Post
-  add-values-2 c = search (items, needs)
+  add-values-2 c = search needs
 
   pub sub-values : lts.Need-sub-values (claims t) (held-at t) held.Post
-  sub-values c = search (items, needs)
+  sub-values c = search needs
 
   pub values-requires : lts.Need-values-requires (claims t) (held-at t) held.Post
-  values-requires c κs = search (items, needs)
+  values-requires c κs = search needs
 
   pub returns-3 : lts.Need-returns-3 (claims t) (held-at t) held.Post
-  returns-3 c = search (items, needs)
+  returns-3 c = search items

@@ -14,46 +14,46 @@ claims t = (any-pair-below t, any-pair.Post, pairs-below t, pairs.Post, values-b
 
 module _ (t : ℕ) where
   pub any-pair-requires : lts.Need-any-pair-requires (claims t) (pair-at t) pair.Post
-  any-pair-requires c κs = search (items, needs)
+  any-pair-requires c κs = search needs
 
   pub returns : lts.Need-returns (claims t) (pair-at t) pair.Post
-  returns c = search (items, needs)
+  returns c = search needs
 
   pub add-pairs : lts.Need-add-pairs (claims t) (pair-at t) pair.Post
-  add-pairs c = search (items, needs)
+  add-pairs c = search needs
 
   pub add-pairs-2 : lts.Need-add-pairs-2 (claims t) (pair-at t) pair.Post
-  add-pairs-2 c = search (items, needs)
+  add-pairs-2 c = search needs
 
   pub add-pairs-3 : lts.Need-add-pairs-3 (claims t) (pair-at t) pair.Post
-  add-pairs-3 c = search (items, needs)
+  add-pairs-3 c = search needs
 
   pub sub-pairs : lts.Need-sub-pairs (claims t) (pair-at t) pair.Post
-  sub-pairs c = search (items, needs)
+  sub-pairs c = search needs
 
   pub sub-pairs-2 : lts.Need-sub-pairs-2 (claims t) (pair-at t) pair.Post
-  sub-pairs-2 c = search (items, needs)
+  sub-pairs-2 c = search items
 
   pub pairs-requires : lts.Need-pairs-requires (claims t) (pair-at t) pair.Post
-  pairs-requires c κs = search (items, needs)
+  pairs-requires c κs = search items
 
   pub returns-2 : lts.Need-returns-2 (claims t) (pair-at t) pair.Post
-  returns-2 c = search (items, needs)
+  returns-2 c = search items
 
   pub add-values : lts.Need-add-values (claims t) (pair-at t) pair.Post
-  add-values c = search (items, needs)
+  add-values c = search needs
 
   pub add-values-2 : lts.Need-add-values-2 (claims t) (pair-at t) pair.Post
-  add-values-2 c = search (items, needs)
+  add-values-2 c = search needs
 
   pub add-values-3 : lts.Need-add-values-3 (claims t) (pair-at t) pair.Post
-  add-values-3 c = search (items, needs)
+  add-values-3 c = search needs
 
   pub sub-values : lts.Need-sub-values (claims t) (pair-at t) pair.Post
-  sub-values c = search (items, needs)
+  sub-values c = search needs
 
   pub values-requires : lts.Need-values-requires (claims t) (pair-at t) pair.Post
-  values-requires c κs = search (items, needs)
+  values-requires c κs = search items
 
   pub returns-3 : lts.Need-returns-3 (claims t) (pair-at t) pair.Post
-  returns-3 c = search (items, needs)
+  returns-3 c = search items

@@ -1,7 +1,7 @@
 -- The loop over parts: the answer from here on is the answer. The parts left fall. Assumes nothing.
 use Prim.Native.Nat.{ℕ}
 use mathlib.Core.Path.{_≡_}
-use mathlib.Core.Bool.{true, false}
+use mathlib.Core.Bool.{false}
 use borrow.Author.Needs.{needs}
 use native.Mathlib.Omega.{arith}
 use Rattle.element.specs.Form.{itemsOf}
@@ -24,7 +24,7 @@ abbrev pub μ-loop : lts.MeasureT-loop
 
 module _ (t : ℕ) where
   pub loop-holds : lts.Need-loop-holds (claims t) (values-at t) values.Post Inv-loop μ-loop
-  loop-holds c = search (turns, needs)
+  loop-holds c = search needs
 
   pub quick-value-requires : lts.Need-quick-value-requires (claims t) (values-at t) values.Post Inv-loop μ-loop
   quick-value-requires c κs = tt
@@ -33,40 +33,40 @@ module _ (t : ℕ) where
   is-short-requires c κs = tt
 
   pub add-p : lts.Need-add-p (claims t) (values-at t) values.Post Inv-loop μ-loop
-  add-p c = search (items, needs)
+  add-p c = search items
 
   pub add-c : lts.Need-add-c (claims t) (values-at t) values.Post Inv-loop μ-loop
-  add-c c = search (items, needs)
+  add-c c = search items
 
   pub sub-k : lts.Need-sub-k (claims t) (values-at t) values.Post Inv-loop μ-loop
-  sub-k c = search (items, needs)
+  sub-k c = search needs
 
   pub loop-less : lts.Need-loop-less (claims t) (values-at t) values.Post Inv-loop μ-loop
-  loop-less c = search (items, needs)
+  loop-less c = search needs
 
   pub loop-again : lts.Need-loop-again (claims t) (values-at t) values.Post Inv-loop μ-loop
-  loop-again c = search (turns, needs)
+  loop-again c = search turns
 
   pub held-requires : lts.Need-held-requires (claims t) (values-at t) values.Post Inv-loop μ-loop
-  held-requires c κs = (omega arith, search (items, needs))
+  held-requires c κs = (omega arith, search items)
 
   pub enum-known-q : lts.Need-enum-known-q (claims t) (values-at t) values.Post Inv-loop μ-loop
   enum-known-q c = search needs
 
   pub sub-k-2 : lts.Need-sub-k-2 (claims t) (values-at t) values.Post Inv-loop μ-loop
-  sub-k-2 c = search (items, needs)
+  sub-k-2 c = search needs
 
   pub loop-less-2 : lts.Need-loop-less-2 (claims t) (values-at t) values.Post Inv-loop μ-loop
-  loop-less-2 c = search (items, needs)
+  loop-less-2 c = search needs
 
   pub loop-again-2 : lts.Need-loop-again-2 (claims t) (values-at t) values.Post Inv-loop μ-loop
-  loop-again-2 c = search (turns, needs)
+  loop-again-2 c = search turns
 
   pub enum-known-number : lts.Need-enum-known-number (claims t) (values-at t) values.Post Inv-loop μ-loop
   enum-known-number c = search needs
 
   pub returns : lts.Need-returns (claims t) (values-at t) values.Post Inv-loop μ-loop
-  returns c = search (turns, needs)
+  returns c = search turns
 
   pub returns-2 : lts.Need-returns-2 (claims t) (values-at t) values.Post Inv-loop μ-loop
-  returns-2 c = search (turns, needs)
+  returns-2 c = search turns
