@@ -6,9 +6,17 @@ use Rattle.octets.specs.Bytes.{bigBytes}
 use Rattle.element.specs.Lead.{leadBytes, rowIn, headOf}
 use Rattle.element.specs.Form.{faultOf, bodyOf, spanOf, times, elementOf, walkOf}
 use Rattle.element.specs.At.{leafAt}
+use Rattle.element.specs.Tree.{bytesOf}
+use Rattle.element.specs.Meaning.{meaningOf}
+use Rattle.names.specs.Names.{commands, placeIn, commandOf}
+use Rattle.field.specs.Kind.{kinds, kindIn}
+use Rattle.field.specs.Judge.{judge}
+use Rattle.message.specs.Fields.{lists, listIn}
+use Rattle.message.specs.Record.{messageOf}
+use Rattle.message.specs.Reading.{saidFrom, cellsOf, gravest, lookIn, placeOf, readingAs, readingOf}
 use Rattle.examples.specs.Example.{AllHold}
 use Rattle.examples.specs.Starred.{starred}
 
 pub all-hold : AllHold starred
-unfolding walkOf elementOf times spanOf bodyOf faultOf headOf rowIn leadBytes bigAt bigBytes leafAt ofBits toBits
-all-hold = (refl, (refl, (refl, (refl, (refl, (refl, (refl, (refl, (refl, ((refl, refl), (refl, (refl, tt))))))))))))
+unfolding walkOf elementOf times spanOf bodyOf faultOf headOf rowIn leadBytes bigAt bigBytes leafAt ofBits toBits bytesOf meaningOf commands placeIn commandOf kinds kindIn judge lists listIn messageOf saidFrom cellsOf gravest lookIn placeOf readingAs readingOf
+all-hold = (refl, (refl, ((refl, refl), (refl, ((refl, refl), ((refl, refl), (refl, (refl, (refl, (refl, ((refl, refl), (refl, (refl, ((refl, refl), (refl, (refl, tt))))))))))))))))

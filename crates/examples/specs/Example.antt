@@ -8,6 +8,9 @@ use Rattle.octets.specs.Bytes.{bigBytes}
 use Rattle.element.specs.declared.Walked.{Walked}
 use Rattle.element.specs.Form.{walkOf}
 use Rattle.element.specs.At.{leafAt}
+use Rattle.element.specs.Tree.{Pairs, bytesOfPairs}
+use Rattle.element.specs.Meaning.{meaningOfPairs}
+use Rattle.message.specs.Reading.{Reading, readingOf}
 use Rattle.number.specs.declared.Number.the-variants.{Real}
 use Rattle.number.specs.Number.{numberOf}
 
@@ -16,12 +19,15 @@ pub data Example : Type 0 where
   size : List ℕ → ℕ → Example
   -- a payload's form: whole with its elements counted, or a refusal and its place
   form : List ℕ → Walked → Example
+  -- the bytes of a message's outer map of pairs, and what it is read as
+  reading : List ℕ → ℕ → Pairs → Reading → Example
   -- an element is that real, which is kept as those eight bytes
   real : List ℕ → Float → List ℕ → Example
 
 abbrev pub Holds : Example → Type 0
 Holds (size s n) = length s ≡ n
 Holds (form s w) = walkOf s ≡ w
+Holds (reading s lead ps r) = (lead ∷ bytesOfPairs ps ≡ s) × (readingOf (meaningOfPairs ps) ≡ r)
 Holds (real s x kept) = (numberOf (leafAt s 0) ≡ Real x) × (bigBytes 8 (toBits binary64 x) ≡ kept)
 
 abbrev pub AllHold : List Example → Type 0

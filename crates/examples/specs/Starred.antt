@@ -1,13 +1,24 @@
--- Document 01, "Examples on each side": those marked *, in its order, as far as they speak of form and of numbers.
+-- Document 01, "Examples on each side": those marked *, in its order, as far as they speak of form, of numbers and of reading.
 use mathlib.Core.Bool.{true}
 use mathlib.Core.List.{List, [], _∷_, _++_}
-use Prim.Native.Nat.{ℕ, zero, suc}
+use Prim.Native.Nat.{ℕ, zero, suc, _+_}
+use Prim.Native.String.{String}
 use lib.IntN.{pos}
 use lib.Ieee.{fin}
-use lib.ListN.{take, drop}
+use lib.ListN.{length, take, drop}
+use Rattle.octets.specs.Choice.{either}
+use Rattle.element.specs.Tree.{Tree, Pairs}
+use Rattle.element.specs.Tree.Tree.{leaf}
+use Rattle.element.specs.Tree.Pairs.{end, pair}
+use Rattle.names.specs.Names.{bytes, sameBytes}
+use Rattle.field.specs.Kind.{Value}
+use Rattle.field.specs.Cell.{Cell}
+use Rattle.message.specs.Record.{messageOf}
+use Rattle.message.specs.Reading.{Reading}
+use Rattle.message.specs.declared.Message.{Message}
 use Rattle.element.specs.declared.Walked.the-variants.{Whole, Refused}
 use Rattle.examples.specs.Example.{Example}
-use Rattle.examples.specs.Example.Example.{size, form, real}
+use Rattle.examples.specs.Example.Example.{size, form, reading, real}
 
 -- the payload P: a map of two pairs, `command` with `ping` and `opId` with 1
 abbrev pub P : List ℕ
@@ -15,7 +26,7 @@ P = 0x82 ∷ 0xA7 ∷ 0x63 ∷ 0x6F ∷ 0x6D ∷ 0x6D ∷ 0x61 ∷ 0x6E ∷ 0x64
 
 -- P with 83 and a third pair added
 abbrev pub P-with : List ℕ → List ℕ
-P-with pair = 0x83 ∷ drop 1 P ++ pair
+P-with third = 0x83 ∷ drop 1 P ++ third
 
 -- P with its ID, the last byte, in another form
 abbrev pub P-with-ID : List ℕ → List ℕ
@@ -30,21 +41,42 @@ abbrev pub nested-in : ℕ → List ℕ
 nested-in zero = 0x90 ∷ []
 nested-in (suc n) = 0x91 ∷ nested-in n
 
+-- a text, and a pair whose key is one
+abbrev pub named : String → Tree
+named t = leaf (0xA0 + length (bytes t)) [] (bytes t)
+
+abbrev pub with : String → Tree → Pairs → Pairs
+with k v ps = pair (named k) v ps
+
+-- the pairs of P, with its ID in a form of its own and with further pairs
+abbrev pub P-pairs : Tree → Pairs → Pairs
+P-pairs id more = with "command" (named "ping") (with "opId" id more)
+
+-- the record of ping 1
+abbrev pub ping-1 : Message
+ping-1 = messageOf 9 (λ k. either (sameBytes (bytes "opId") k) (λ _. Cell.good (Value.number (pos 1))) (λ _. Cell.missing))
+
 abbrev pub starred : List Example
 starred =
     -- P: payload, 20 bytes, 5 elements
     size P 20 ∷
     form P (Whole 5) ∷
+    -- P: ping 1
+    reading P 0x82 (P-pairs (leaf 0x01 [] []) end) (Reading.reads ping-1) ∷
     -- P with 83 and A5 65 70 45 75 69 07 added: 7 elements
     form (P-with (0xA5 ∷ 0x65 ∷ 0x70 ∷ 0x45 ∷ 0x75 ∷ 0x69 ∷ 0x07 ∷ [])) (Whole 7) ∷
-    -- P with ID as D3 00 00 00 00 00 00 00 01
+    -- the same record
+    reading (P-with (0xA5 ∷ 0x65 ∷ 0x70 ∷ 0x45 ∷ 0x75 ∷ 0x69 ∷ 0x07 ∷ [])) 0x83 (P-pairs (leaf 0x01 [] []) (with "epEui" (leaf 0x07 [] []) end)) (Reading.reads ping-1) ∷
+    -- P with ID as D3 00 00 00 00 00 00 00 01: same record
+    reading (P-with-ID (0xD3 ∷ 0 ∷ 0 ∷ 0 ∷ 0 ∷ 0 ∷ 0 ∷ 0 ∷ 1 ∷ [])) 0x82 (P-pairs (leaf 0xD3 [] (0 ∷ 0 ∷ 0 ∷ 0 ∷ 0 ∷ 0 ∷ 0 ∷ 1 ∷ [])) end) (Reading.reads ping-1) ∷
     form (P-with-ID (0xD3 ∷ 0 ∷ 0 ∷ 0 ∷ 0 ∷ 0 ∷ 0 ∷ 0 ∷ 1 ∷ [])) (Whole 5) ∷
     -- P with one byte added: 10, at the byte left over
     form (P ++ (0x00 ∷ [])) (Refused 10 20) ∷
     -- without its last: 4, where the ID should start
     form (take 19 P) (Refused 4 19) ∷
-    -- 80: whole in form, so its 11 is a matter of reading
+    -- 80: whole in form, and 11 in reading
     form (0x80 ∷ []) (Whole 1) ∷
+    reading (0x80 ∷ []) 0x80 end (Reading.refused 11) ∷
     -- 90: 9
     form (0x90 ∷ []) (Refused 9 0) ∷
     -- C1: 5

@@ -1,0 +1,17 @@
+pub mod Shallow
+pub mod Numbers
+pub mod Heads
+pub mod Flags
+pub mod Views
+pub mod Texts
+pub mod Octets
+pub mod Arrays
+pub mod Copies
+pub mod Strings
+pub mod Places
+pub mod Feeding
+pub mod Versions
+pub mod Families
+pub mod Settled
+pub mod Standing
+pub mod Trees

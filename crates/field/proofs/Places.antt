@@ -1,0 +1,193 @@
+-- Positions: three finite reals behind each other, and no fewer or more. Each law in the shape of a need of the code. Assumes nothing.
+use mathlib.Core.Path.{_≡_, refl, sym, ap, _∙_}
+use mathlib.Core.Bool.{Bool, true, false, _&&_}
+use mathlib.Core.List.{List, [], _∷_}
+use mathlib.Core.Option.{Option, some, none}
+use Prim.Native.Nat.{ℕ, zero, suc}
+use lib.IntN.{ℤ}
+use lib.Ieee.{Float}
+use Rattle.octets.specs.Choice.{either}
+use Rattle.element.specs.Form.{spanOf}
+use Rattle.element.specs.Meaning.{Element, Elements}
+use Rattle.element.specs.At.{leafAt}
+use Rattle.number.specs.declared.Number.{Number}
+use Rattle.number.specs.declared.Number.the-variants.{Signed, Unsigned, Real, Not}
+use Rattle.number.specs.Number.{numberOf}
+use Rattle.field.specs.declared.Judged.{Judged}
+use Rattle.field.specs.declared.Part.{Part}
+use Rattle.field.specs.declared.Measure.{Measure}
+use Rattle.field.specs.declared.Triple.{Triple}
+use Rattle.field.specs.Kind.{Kind, Value}
+use Rattle.field.specs.Judge.{onSome, partsOf, realIn, realsIn, positionOf, judge}
+use Rattle.field.specs.At.{endOf, leavesFrom, shallowAt, positioned}
+use Rattle.field.specs.Read.{badly, well, tellOf, readAt}
+use Rattle.field.specs.Part.{partsBy, Lists}
+use Rattle.field.specs.Item.{no-measure, measureBy, measureAt, realsFrom, unknown, tripleOf}
+
+-- one real
+module _ (s : List ℕ) (at : ℕ) (x : Number) (e : x ≡ numberOf (leafAt s at)) where
+  by-measure : (y : Number) → x ≡ y → measureBy (realIn y) (endOf at (spanOf s at)) ≡ measureAt s at
+  unfolding measureAt
+  by-measure y q = ap (λ (z : Number). measureBy (realIn z) (endOf at (spanOf s at))) (sym q ∙ e)
+
+  pub measure-real : (f : Float) (next : ℕ) → x ≡ Real f → next ≡ endOf at (spanOf s at) → record { there = true; x = f; next = next } ≡ measureAt s at
+  measure-real f next q p = ap (λ (n : ℕ). measureBy (some f) n) p ∙ by-measure (Real f) q
+
+  module _ (r : Measure) (n : r ≡ no-measure) where
+    pub measure-signed : (z : ℤ) → x ≡ Signed z → r ≡ measureAt s at
+    measure-signed z q = n ∙ by-measure (Signed z) q
+
+    pub measure-unsigned : (k : ℕ) → x ≡ Unsigned k → r ≡ measureAt s at
+    measure-unsigned k q = n ∙ by-measure (Unsigned k) q
+
+    pub measure-not : x ≡ Not → r ≡ measureAt s at
+    measure-not q = n ∙ by-measure Not q
+
+pub ruleset measures = (measure-real, measure-signed, measure-unsigned, measure-not)
+
+-- three of them
+abbrev nest : Option Float → Option Float → Option Float → Option (List Float)
+nest a b c = onSome a (λ x. onSome (onSome b (λ y. onSome (onSome c (λ z. some (z ∷ []))) (λ zs. some (y ∷ zs)))) (λ ys. some (x ∷ ys)))
+
+abbrev joined : Measure → Measure → Measure → Triple
+joined a b c = either ((a .there && b .there) && c .there) (λ _. record { there = true; x = a .x; y = b .x; z = c .x }) (λ _. unknown)
+
+third : (x y : Float) (p q : ℕ) (c : Option Float) (r : ℕ) → joined (measureBy (some x) p) (measureBy (some y) q) (measureBy c r) ≡ tripleOf (onSome (nest (some x) (some y) c) positionOf)
+third x y p q none r = refl
+third x y p q (some z) r = refl
+
+-- each real is looked for behind the one before, if that is there
+module _ (f : ℕ → Option Float) (g : ℕ → ℕ) where
+  abbrev then : Measure → Measure
+  then m = measureBy (f (m .next)) (g (m .next))
+
+  second : (x : Float) (p : ℕ) (b : Option Float) (q : ℕ) → joined (measureBy (some x) p) (measureBy b q) (then (measureBy b q)) ≡ tripleOf (onSome (nest (some x) b (f q)) positionOf)
+  second x p none q = refl
+  second x p (some y) q = third x y p q (f q) (g q)
+
+  first : (a : Option Float) (p : ℕ) → joined (measureBy a p) (then (measureBy a p)) (then (then (measureBy a p))) ≡ tripleOf (onSome (nest a (f p) (f (g p))) positionOf)
+  first none p = refl
+  first (some x) p = second x p (f p) (g p)
+
+module _ (s : List ℕ) (from : ℕ) (a b c : Measure) (e : a ≡ measureAt s from) (f : b ≡ measureAt s (a .next)) (g : c ≡ measureAt s (b .next)) where
+  joined-is : joined a b c ≡ tripleOf (onSome (realsFrom s 3 from) positionOf)
+  unfolding measureAt realsFrom realsIn leavesFrom
+  joined-is =
+      ap (joined a b) g ∙ ap (λ (m : Measure). joined a m (measureAt s (m .next))) f
+      ∙ ap (λ (m : Measure). joined m (measureAt s (m .next)) (measureAt s (measureAt s (m .next) .next))) e
+      ∙ first (λ at. realIn (numberOf (leafAt s at))) (λ at. endOf at (spanOf s at)) (realIn (numberOf (leafAt s from))) (endOf from (spanOf s from))
+
+  pub three-there : (a .there && b .there) && c .there ≡ true → record { there = true; x = a .x; y = b .x; z = c .x } ≡ tripleOf (onSome (realsFrom s 3 from) positionOf)
+  three-there u = sym (simp u) ∙ joined-is
+
+  pub three-not : (r : Triple) → r ≡ unknown → (a .there && b .there) && c .there ≡ false → r ≡ tripleOf (onSome (realsFrom s 3 from) positionOf)
+  three-not r n u = n ∙ sym (simp u) ∙ joined-is
+
+pub ruleset threes = (three-there, three-not)
+
+-- no other number of them is a position
+one : (a : Option Float) → onSome (onSome a (λ x. some (x ∷ []))) positionOf ≡ none
+one none = refl
+one (some x) = refl
+
+two : (a b : Option Float) → onSome (onSome a (λ x. onSome (onSome b (λ y. some (y ∷ []))) (λ ys. some (x ∷ ys)))) positionOf ≡ none
+two none b = refl
+two (some x) none = refl
+two (some x) (some y) = refl
+
+many : (a b c d : Option Float) (r : Option (List Float)) → onSome (onSome a (λ x. onSome (onSome b (λ y. onSome (onSome c (λ z. onSome (onSome d (λ w. onSome r (λ ws. some (w ∷ ws)))) (λ zs. some (z ∷ zs)))) (λ ys. some (y ∷ ys)))) (λ xs. some (x ∷ xs)))) positionOf ≡ none
+many none b c d r = refl
+many (some x) none c d r = refl
+many (some x) (some y) none d r = refl
+many (some x) (some y) (some z) none r = refl
+many (some x) (some y) (some z) (some w) none = refl
+many (some x) (some y) (some z) (some w) (some ws) = refl
+
+abbrev found : List ℕ → ℕ → Option Float
+found s at = realIn (numberOf (leafAt s at))
+
+abbrev behind : List ℕ → ℕ → ℕ
+behind s at = endOf at (spanOf s at)
+
+not-three : (s : List ℕ) (n at : ℕ) → (n ≡ 3 → ⊥) → onSome (realsFrom s n at) positionOf ≡ none
+unfolding realsFrom realsIn leavesFrom
+not-three s zero at h = refl
+not-three s (suc zero) at h = one (found s at)
+not-three s (suc (suc zero)) at h = two (found s at) (found s (behind s at))
+not-three s (suc (suc (suc zero))) at h = absurd (h refl)
+not-three s (suc (suc (suc (suc n)))) at h =
+    many (found s at) (found s (behind s at)) (found s (behind s (behind s at))) (found s (behind s (behind s (behind s at))))
+    (realsIn (leavesFrom s n (behind s (behind s (behind s (behind s at))))))
+
+module _ (s : List ℕ) (at : ℕ) (a : Part) (y : Lists s at a) (r : Triple) where
+  by-reals : (t : Bool) → a .there ≡ t → onSome (partsBy t (leavesFrom s (a .size) (a .from))) (λ es. onSome (realsIn es) positionOf) ≡ judge Kind.places (shallowAt s at)
+  unfolding judge
+  by-reals t e =
+      ap (λ (o : Option Elements). onSome o (λ es. onSome (realsIn es) positionOf))
+      (ap (λ (b : Bool). partsBy b (leavesFrom s (a .size) (a .from))) (sym e) ∙ sym (y .is))
+
+  pub located-three : a .there ≡ true → a .size ≡ 3 → r ≡ tripleOf (onSome (realsFrom s 3 (a .from)) positionOf) → r ≡ tripleOf (judge Kind.places (shallowAt s at))
+  unfolding realsFrom
+  located-three t k e =
+      e ∙ ap (λ (n : ℕ). tripleOf (onSome (realsFrom s n (a .from)) positionOf)) (sym k) ∙ ap tripleOf (by-reals true t)
+
+  pub located-count : a .there ≡ true → (a .size ≡ 3 → ⊥) → r ≡ unknown → r ≡ tripleOf (judge Kind.places (shallowAt s at))
+  unfolding realsFrom
+  located-count t k e = e ∙ ap tripleOf (sym (not-three s (a .size) (a .from) k) ∙ by-reals true t)
+
+  pub located-not : a .there ≡ false → r ≡ unknown → r ≡ tripleOf (judge Kind.places (shallowAt s at))
+  located-not t e = e ∙ ap tripleOf (by-reals false t)
+
+pub ruleset locations = (located-three, located-count, located-not)
+
+-- a position as it is handed on
+pub position-is : (t : Triple) (o : Option Value) → t ≡ tripleOf o → record { latitude = t .x; longitude = t .y; altitude = t .z } ≡ positioned o
+position-is t o e = ap (λ (p : Triple). record { latitude = p .x; longitude = p .y; altitude = p .z }) e ∙ go o
+  where
+    go : (o : Option Value) → record { latitude = tripleOf o .x; longitude = tripleOf o .y; altitude = tripleOf o .z } ≡ positioned o
+    go none = refl
+    go (some Value.nothing) = refl
+    go (some (Value.number z)) = refl
+    go (some (Value.figure x)) = refl
+    go (some (Value.mark b)) = refl
+    go (some (Value.position x y z)) = refl
+    go (some (Value.string d)) = refl
+    go (some (Value.release a b c)) = refl
+
+placed : List Float → Judged
+placed xs = either (tripleOf (positionOf xs) .there) (λ _. well 0) (λ _. badly)
+
+of-list : (xs : List Float) → placed xs ≡ tellOf (positionOf xs)
+unfolding placed tellOf
+of-list [] = refl
+of-list (x ∷ []) = refl
+of-list (x ∷ (y ∷ [])) = refl
+of-list (x ∷ (y ∷ (z ∷ []))) = refl
+of-list (x ∷ (y ∷ (z ∷ (w ∷ rest)))) = refl
+
+of-reals : (o : Option (List Float)) → either (tripleOf (onSome o positionOf) .there) (λ _. well 0) (λ _. badly) ≡ tellOf (onSome o positionOf)
+unfolding placed tellOf
+of-reals none = refl
+of-reals (some xs) = of-list xs
+
+place-told : (e : Element) → either (tripleOf (judge Kind.places e) .there) (λ _. well 0) (λ _. badly) ≡ tellOf (judge Kind.places e)
+unfolding judge tellOf
+place-told e = go (partsOf e)
+  where
+    go : (o : Option Elements) → either (tripleOf (onSome o (λ es. onSome (realsIn es) positionOf)) .there) (λ _. well 0) (λ _. badly) ≡ tellOf (onSome o (λ es. onSome (realsIn es) positionOf))
+    go none = refl
+    go (some es) = of-reals (realsIn es)
+
+module _ (s : List ℕ) (at : ℕ) (t : Triple) (e : t ≡ tripleOf (judge Kind.places (shallowAt s at))) (r : Judged) where
+  by-place : (b : Bool) → t .there ≡ b → either b (λ _. well 0) (λ _. badly) ≡ readAt Kind.places s at
+  unfolding readAt
+  by-place b u =
+      ap (λ (x : Bool). either x (λ _. well 0) (λ _. badly)) (sym u ∙ ap (λ (p : Triple). p .there) e) ∙ place-told (shallowAt s at)
+
+  pub place-good : t .there ≡ true → r ≡ well 0 → r ≡ readAt Kind.places s at
+  place-good u q = q ∙ by-place true u
+
+  pub place-bad : t .there ≡ false → r ≡ badly → r ≡ readAt Kind.places s at
+  place-bad u q = q ∙ by-place false u
+
+pub ruleset places = (place-good, place-bad)

@@ -1,0 +1,69 @@
+-- What `shallowAt` reads where a lawful tree stands: a leaf's meaning, an array's parts as leaves, a map without its pairs.
+-- The head states the span, and the element is read by its span. Assumes nothing.
+use mathlib.Core.Path.{_≡_, ap, _∙_, subst}
+use mathlib.Core.List.{List, _∷_, _++_}
+use Prim.Native.Nat.{ℕ, _+_, _<_}
+use native.Mathlib.Omega.{arith}
+use lib.Dec.{lit<}
+use lib.ListN.{length, drop, length-append}
+use borrow.Author.Tests.{lt-ltb}
+use Rattle.octets.proofs.Places.{after-le}
+use Rattle.element.specs.declared.Shape.{Shape}
+use Rattle.element.specs.declared.Shape.the-variants.{Never, Array, Map}
+use Rattle.element.specs.declared.Span.{Span}
+use Rattle.element.specs.declared.Span.the-variants.{Ends}
+use Rattle.element.specs.Lead.{headOf}
+use Rattle.element.specs.Form.{Role, contentOf, spanOf}
+use Rattle.element.specs.Tree.{Trees, Pairs, bytesOf, bytesOfAll, bytesOfPairs, partsOf, pairsOf, Headed, IsBody, Lawful}
+use Rattle.element.specs.Tree.Tree.{leaf, array, map}
+use Rattle.element.specs.Meaning.{meaningOf}
+use Rattle.element.specs.Meaning.Element.{list, table}
+use Rattle.element.specs.Meaning.Fields.{no-field}
+use Rattle.element.proofs.Steps.{suits-value}
+use Rattle.element.proofs.Passed.{span-opens, leaf-content, array-never, map-never}
+use Rattle.element.proofs.At.{headed, there, behind, behind-le, leaf-at}
+use Rattle.field.specs.At.{endOf, leavesFrom, shallowBy, shallowAt}
+
+-- an element whose byte is there is read by its span
+by-span : (s : List ℕ) (at : ℕ) (x : Span) → at < length s → spanOf s at ≡ x → shallowAt s at ≡ shallowBy s at x
+unfolding shallowAt
+by-span s at x h e = simp (lt-ltb at (length s) h, e)
+
+module _ (s : List ℕ) (at b : ℕ) (l d t : List ℕ) (e : drop at s ≡ (b ∷ l ++ d) ++ t) where
+  span : (h : Shape) (n : ℕ) → Headed h b l n → (h ≡ Never → ⊥) → spanOf s at ≡ contentOf h (length s) (at + 1 + length l) n
+  span h n H v = span-opens s 1 Role.value at 0 b n l (d ++ t) h H v (suits-value h) (lit< tt) (lit< tt) (headed s at b l d t e)
+
+  read : (h : Shape) (n : ℕ) → Headed h b l n → (h ≡ Never → ⊥) → shallowAt s at ≡ shallowBy s at (contentOf h (length s) (at + 1 + length l) n)
+  read h n H v = by-span s at (contentOf h (length s) (at + 1 + length l) n) (there s at b l d t e) (span h n H v)
+
+  body-span : Headed (headOf b .shape) b l (length d) → IsBody (headOf b .shape) → spanOf s at ≡ Ends (at + 1 + length l + length d)
+  body-span H i =
+      let fits = after-le s (at + 1 + length l) d t (behind s at b l d t e) (behind-le s at b l d t e) in
+      span (headOf b .shape) (length d) H (λ z. subst IsBody z i)
+      ∙ leaf-content (headOf b .shape) i (length s) (at + 1 + length l) (length d) (omega arith)
+
+module _ (s : List ℕ) (at b : ℕ) (l t : List ℕ) where
+  -- a leaf ends where its bytes do
+  pub leaf-end : (d : List ℕ) → Lawful (leaf b l d) → drop at s ≡ bytesOf (leaf b l d) ++ t → endOf at (spanOf s at) ≡ at + length (bytesOf (leaf b l d))
+  unfolding bytesOf Lawful
+  leaf-end d L e = ap (endOf at) (body-span s at b l d t e (L .0) (L .1)) ∙ omega (arith, length-append l d)
+
+  pub leaf-shallow : (d : List ℕ) → Lawful (leaf b l d) → drop at s ≡ bytesOf (leaf b l d) ++ t → shallowAt s at ≡ meaningOf (leaf b l d)
+  unfolding bytesOf Lawful
+  leaf-shallow d L e =
+      by-span s at (Ends (at + 1 + length l + length d)) (there s at b l d t e) (body-span s at b l d t e (L .0) (L .1))
+      ∙ leaf-at s at b l t d L e
+
+  pub array-shallow : (ts : Trees) → Lawful (array b l ts) → drop at s ≡ bytesOf (array b l ts) ++ t
+      → shallowAt s at ≡ list (leavesFrom s (partsOf ts) (at + 1 + length l))
+  unfolding bytesOf Lawful
+  array-shallow ts L e = read s at b l (bytesOfAll ts) t e Array (partsOf ts) (L .0) array-never
+
+  -- where the parts begin
+  pub array-parts : (ts : Trees) → drop at s ≡ bytesOf (array b l ts) ++ t → drop (at + 1 + length l) s ≡ bytesOfAll ts ++ t
+  unfolding bytesOf
+  array-parts ts e = behind s at b l (bytesOfAll ts) t e
+
+  pub map-shallow : (ps : Pairs) → Lawful (map b l ps) → drop at s ≡ bytesOf (map b l ps) ++ t → shallowAt s at ≡ table no-field
+  unfolding bytesOf Lawful
+  map-shallow ps L e = read s at b l (bytesOfPairs ps) t e Map (pairsOf ps) (L .0) map-never

@@ -1,0 +1,130 @@
+-- What an element is worth under a kind: its value, or none where it is invalid (document 01's 15).
+use Prim.Native.Nat.{ℕ, suc}
+use mathlib.Core.Bool.{Bool, true, false, _&&_}
+use mathlib.Core.List.{List, [], _∷_}
+use mathlib.Core.Option.{Option, some, none}
+use lib.Dec.{leb}
+use lib.IntN.{ℤ, pos, negsuc}
+use lib.ListN.{length}
+use lib.Ieee.{Float}
+use Rattle.octets.specs.Choice.{either}
+use Rattle.element.specs.Meaning.{Element, Elements, Fields}
+use Rattle.element.specs.Meaning.Element.{null, truth, whole, single, double, text, octets, typed, list, table}
+use Rattle.element.specs.Meaning.Elements.{no-more, more}
+use Rattle.number.specs.declared.Number.{Number}
+use Rattle.number.specs.declared.Number.the-variants.{Signed, Unsigned, Real, Not}
+use Rattle.number.specs.Number.{numberOf}
+use Rattle.field.specs.Kind.{Kind, Value}
+use Rattle.field.specs.Version.{versionOf}
+
+abbrev pub when : Bool → Value → Option Value
+when b v = either b (λ _. some v) (λ _. none)
+
+abbrev pub onSome : {A B : Type 0} → Option A → (A → Option B) → Option B
+onSome none f = none
+onSome (some a) f = f a
+
+-- a whole number from minus lo to hi
+abbrev pub inRange : ℕ → ℕ → ℤ → Bool
+inRange lo hi (pos n) = leb n hi
+inRange lo hi (negsuc k) = leb (suc k) lo
+
+abbrev pub wholeIn : ℕ → ℕ → Number → Option Value
+wholeIn lo hi (Signed z) = when (inRange lo hi z) (Value.number z)
+wholeIn lo hi (Unsigned n) = when (leb n hi) (Value.number (pos n))
+wholeIn lo hi (Real x) = none
+wholeIn lo hi Not = none
+
+-- a finite real; whole numbers are none
+abbrev pub realIn : Number → Option Float
+realIn (Signed z) = none
+realIn (Unsigned n) = none
+realIn (Real x) = some x
+realIn Not = none
+
+abbrev pub octetIn : Number → Option ℕ
+octetIn (Signed z) = none
+octetIn (Unsigned n) = either (leb n 255) (λ _. some n) (λ _. none)
+octetIn (Real x) = none
+octetIn Not = none
+
+-- views of an element
+abbrev pub truthOf : Element → Option Bool
+truthOf null = none
+truthOf (truth b) = some b
+truthOf (whole z) = none
+truthOf (single n) = none
+truthOf (double n) = none
+truthOf (text d) = none
+truthOf (octets d) = none
+truthOf (typed t d) = none
+truthOf (list es) = none
+truthOf (table fs) = none
+
+abbrev pub textOf : Element → Option (List ℕ)
+textOf null = none
+textOf (truth b) = none
+textOf (whole z) = none
+textOf (single n) = none
+textOf (double n) = none
+textOf (text d) = some d
+textOf (octets d) = none
+textOf (typed t d) = none
+textOf (list es) = none
+textOf (table fs) = none
+
+abbrev pub partsOf : Element → Option Elements
+partsOf null = none
+partsOf (truth b) = none
+partsOf (whole z) = none
+partsOf (single n) = none
+partsOf (double n) = none
+partsOf (text d) = none
+partsOf (octets d) = none
+partsOf (typed t d) = none
+partsOf (list es) = some es
+partsOf (table fs) = none
+
+abbrev pub isTable : Element → Bool
+isTable null = false
+isTable (truth b) = false
+isTable (whole z) = false
+isTable (single n) = false
+isTable (double n) = false
+isTable (text d) = false
+isTable (octets d) = false
+isTable (typed t d) = false
+isTable (list es) = false
+isTable (table fs) = true
+
+-- the bytes that the parts of an array are
+unfoldable pub octetsIn : Elements → Option (List ℕ)
+octetsIn no-more = some []
+octetsIn (more e es) = onSome (octetIn (numberOf e)) (λ b. onSome (octetsIn es) (λ bs. some (b ∷ bs)))
+
+-- the reals that they are
+unfoldable pub realsIn : Elements → Option (List Float)
+realsIn no-more = some []
+realsIn (more e es) = onSome (realIn (numberOf e)) (λ x. onSome (realsIn es) (λ xs. some (x ∷ xs)))
+
+abbrev pub positionOf : List Float → Option Value
+positionOf [] = none
+positionOf (x ∷ []) = none
+positionOf (x ∷ (y ∷ [])) = none
+positionOf (x ∷ (y ∷ (z ∷ []))) = some (Value.position x y z)
+positionOf (x ∷ (y ∷ (z ∷ (w ∷ rest)))) = none
+
+-- so many to so many bytes
+abbrev pub sized : ℕ → ℕ → List ℕ → Option Value
+sized lo hi d = when (leb lo (length d) && leb (length d) hi) (Value.string d)
+
+unfoldable pub judge : Kind → Element → Option Value
+judge (Kind.wholes lo hi) e = wholeIn lo hi (numberOf e)
+judge Kind.reals e = onSome (realIn (numberOf e)) (λ x. some (Value.figure x))
+judge Kind.flags e = onSome (truthOf e) (λ b. some (Value.mark b))
+judge Kind.places e = onSome (partsOf e) (λ es. onSome (realsIn es) positionOf)
+judge (Kind.arrays lo hi) e = onSome (partsOf e) (λ es. onSome (octetsIn es) (sized lo hi))
+judge (Kind.texts lo hi) e = onSome (textOf e) (sized lo hi)
+judge Kind.versions e = onSome (textOf e) versionOf
+judge Kind.words e = onSome (textOf e) (λ d. some Value.nothing)
+judge Kind.maps e = when (isTable e) Value.nothing

@@ -1,0 +1,9 @@
+pub mod Kind
+pub mod Version
+pub mod Judge
+pub mod Cell
+pub mod At
+pub mod Read
+pub mod Part
+pub mod Item
+pub mod Feed

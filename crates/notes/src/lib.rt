@@ -1,0 +1,97 @@
+// Where the value of each key stands in a payload: one pass over the outer map's pairs, which is also the walk over them.
+mod pass;
+
+use element::Step;
+use pass::broken;
+use pass::pass_pairs;
+ghost use mathlib.Core.Path.{_≡_};
+ghost use Prim.Native.Nat.{_≤_, _<_};
+ghost use lib.ListN.{length};
+ghost use Rattle.message.specs.Cells.{commandAt};
+ghost use Rattle.notes.specs.Noted.{notedOf, openedOf, BeginsMap, IsTextAt};
+
+// The walk's answer, and the place of each key's value by slot: 0 nowhere, 1 more than once. Slot 49 is for keys of no command.
+pub struct Noted {
+    pub step: Step,
+    pub places: [u16; 50],
+}
+
+// The outer element of a payload, and the places of its map's values.
+pub fn outer(s: &[u8]) -> Noted
+    ensures { λ r. ⌜ r ≡ notedOf (now (s .entry)) ⌝ }
+{
+    let len = s.len();
+    if len == 0 {
+        return broken(3);
+    }
+    if 4096 < len {
+        return broken(3);
+    }
+    opened(s)
+}
+
+// The same of a payload that is neither empty nor too long.
+fn opened(s: &[u8]) -> Noted
+    requires { ⌜ (0 < length (now s)) × (length (now s) ≤ 4096) ⌝ }
+    ensures { λ r. ⌜ r ≡ openedOf (now (s .entry)) ⌝ }
+{
+    let b = s[0];
+    if b == 0xC1 {
+        return broken(5);
+    }
+    if walk::lead::is_map(b) {
+        return opened_map(s);
+    }
+    broken(9)
+}
+
+// An outer map: how many pairs it states, and where they begin.
+fn opened_map(s: &[u8]) -> Noted
+    requires { ⌜ BeginsMap (now s) ⌝ }
+    ensures { λ r. ⌜ r ≡ openedOf (now (s .entry)) ⌝ }
+{
+    let h = walk::lead::head_of(s[0]);
+    let wide = h.wide;
+    if s.len() - 1 < wide {
+        return broken(4);
+    }
+    let from = 1 + wide;
+    let n = h.more + (octets::big_at(s, 1, wide) as usize);
+    pass_pairs(s, from, n)
+}
+
+// The command's number by the place of its text; 21 for a text that names none, 22 where there is no one text.
+pub fn command_at(s: &[u8], p: usize) -> usize
+    ensures { λ r. ⌜ r ≡ commandAt (now (s .entry)) p ⌝ }
+{
+    if p < 2 {
+        return 22;
+    }
+    if s.len() <= p {
+        return 22;
+    }
+    let b = s[p];
+    if walk::lead::is_text(b) {
+        return named_at(s, p);
+    }
+    22
+}
+
+// The same of a text that stands there: its bytes, where they are all there.
+fn named_at(s: &[u8], p: usize) -> usize
+    requires { ⌜ IsTextAt (now s) p ⌝ }
+    ensures { λ r. ⌜ r ≡ commandAt (now (s .entry)) p ⌝ }
+{
+    let h = walk::lead::head_of(s[p]);
+    let wide = h.wide;
+    if s.len() - p - 1 < wide {
+        return 22;
+    }
+    let from = p + 1 + wide;
+    let n = h.more + (octets::big_at(s, p + 1, wide) as usize);
+    if s.len() - from < n {
+        return 22;
+    }
+    let to = from + n;
+    names::command_of(&s[from..to])
+}

@@ -1,0 +1,274 @@
+-- The theorem at work on written-out bytes: what it asks of two payloads, what it concludes of them, and the record that both are read as,
+-- all by computation. Assumes nothing.
+use mathlib.Core.Path.{_≡_, refl, ap, _∙_}
+use mathlib.Core.Bool.{true, false}
+use mathlib.Core.List.{List, [], _∷_, _++_}
+use Prim.Native.Nat.{ℕ, _+_}
+use Prim.Native.String.{String}
+use lib.Dec.{lit<}
+use lib.Ieee.{fin, ofBits}
+use lib.IntN.{pos}
+use lib.ListN.{length, take, drop}
+use Rattle.octets.specs.Number.{bigAt}
+use Rattle.element.specs.Lead.{leadBytes, rowIn, headOf}
+use Rattle.element.specs.Tree.{Tree, Trees, Pairs, bytesOf, countOf, depthOf, partsOf, pairsOf}
+use Rattle.element.specs.Tree.Tree.{leaf, array, map}
+use Rattle.element.specs.Tree.Trees.{none, some}
+use Rattle.element.specs.Tree.Pairs.{end, pair}
+use Rattle.element.specs.Meaning.{meaningOf, meaningOfPairs}
+use Rattle.names.specs.Names.{bytes, commands, placeIn, commandOf}
+use Rattle.field.specs.Kind.{kinds, kindIn}
+use Rattle.field.specs.Judge.{octetsIn, judge}
+use Rattle.message.specs.Fields.{lists, listIn}
+use Rattle.message.specs.Record.{messageOf}
+use Rattle.message.specs.Reading.{Reading, saidFrom, cellsOf, gravest, lookIn, placeOf, readingAs, readingOf}
+use Rattle.message.specs.Meant.{Meant, toldOf}
+use Rattle.message.specs.Cells.{toldAt}
+use Rattle.message.specs.declared.Message.{Message}
+use Rattle.message.specs.declared.Told.{Told}
+use Rattle.message.proofs.Read.{told-meant}
+use Rattle.promises.specs.Steady.{Rearranged, Changed, Known, Says, Alike}
+use Rattle.promises.proofs.Steady.{steady}
+use Rattle.promises.proofs.Tested.{isLawful, isPayload, says}
+use Rattle.promises.proofs.Moves.{behind, turned, moved, put-in, turn, respelled}
+
+-- all that the theorem asks of two payloads
+pub record Instance (c : ℕ) (s t : List ℕ) (ps qs : Pairs) : Type 0 where
+  pub first : Says s ps
+  pub second : Says t qs
+  pub known : Known c ps
+  pub change : Changed c ps qs
+
+-- both are read as one record, of which `shows` holds
+pub record BothRead (ps qs : Pairs) (shows : Message → Type 0) : Type 0 where
+  pub message : Message
+  pub first : readingOf (meaningOfPairs ps) ≡ Reading.reads message
+  pub second : readingOf (meaningOfPairs qs) ≡ Reading.reads message
+  pub shown : shows message
+
+module _ (c : ℕ) (s t : List ℕ) (ps qs : Pairs) (i : Instance c s t ps qs) where
+  -- the theorem's conclusion
+  pub alike : (r q : Told) → Meant s r → Meant t q → Alike r q
+  alike r q = steady c s t ps qs r q (i .first) (i .second) (i .known) (i .change)
+
+  -- and of the answers that there are: nothing is left to assume
+  pub told-alike : Alike (toldAt s) (toldAt t)
+  told-alike = alike (toldAt s) (toldAt t) (told-meant s) (told-meant t)
+
+-- what is answered to a payload that is read as a record: the record, and the count of its elements
+pub answered : (s : List ℕ) (ps : Pairs) (S : Says s ps) (m : Message) → readingOf (meaningOfPairs ps) ≡ Reading.reads m → (r : Told) → Meant s r
+    → r ≡ toldOf (countOf (map (S .lead) (S .size) ps)) (Reading.reads m)
+unfolding meaningOf
+answered s ps S m e r M = M .whole (map (S .lead) (S .size) ps) (S .payload) ∙ ap (toldOf (countOf (map (S .lead) (S .size) ps))) e
+
+-- a text with its length in the lead byte, and with a byte of length
+abbrev pub text : String → Tree
+text k = leaf (0xA0 + length (bytes k)) [] (bytes k)
+
+abbrev pub wideText : String → Tree
+wideText k = leaf 0xD9 (length (bytes k) ∷ []) (bytes k)
+
+-- an element that is a lead byte alone
+abbrev pub lone : ℕ → Tree
+lone b = leaf b [] []
+
+abbrev pub pairs : List (Tree × Tree) → Pairs
+pairs [] = end
+pairs (p ∷ l) = pair (p .0) (p .1) (pairs l)
+
+-- the payload P of document 01: `command` with `ping`, `opId` with 1
+abbrev pub P : List ℕ
+P = 0x82 ∷ 0xA7 ∷ 0x63 ∷ 0x6F ∷ 0x6D ∷ 0x6D ∷ 0x61 ∷ 0x6E ∷ 0x64 ∷ 0xA4 ∷ 0x70 ∷ 0x69 ∷ 0x6E ∷ 0x67 ∷ 0xA4 ∷ 0x6F ∷ 0x70 ∷ 0x49 ∷ 0x64 ∷ 0x01 ∷ []
+
+abbrev pub ping : Pairs
+ping = pairs ((text "command", text "ping") ∷ (text "opId", lone 1) ∷ [])
+
+pub ping-said : Says P ping
+unfolding isPayload isLawful headOf rowIn leadBytes bytesOf countOf depthOf pairsOf bigAt
+ping-said = says P 0x82 [] ping tt
+
+pub ping-known : Known 9 ping
+unfolding meaningOf rowIn leadBytes saidFrom commandOf placeIn commands
+ping-known = record { name = bytes "ping"; said = refl; is = refl; ours = lit< tt }
+
+-- First: P with 83 and A5 65 70 45 75 69 07 added, an epEui of 7, which ping does not have
+abbrev pub P-added : List ℕ
+P-added = 0x83 ∷ drop 1 P ++ 0xA5 ∷ 0x65 ∷ 0x70 ∷ 0x45 ∷ 0x75 ∷ 0x69 ∷ 0x07 ∷ []
+
+abbrev pub ping-added : Pairs
+ping-added = pairs ((text "command", text "ping") ∷ (text "opId", lone 1) ∷ (text "epEui", lone 7) ∷ [])
+
+pub added : Instance 9 P P-added ping ping-added
+unfolding isPayload isLawful headOf rowIn leadBytes bytesOf countOf depthOf pairsOf bigAt lists listIn
+added = record {
+  first = ping-said;
+  second = says P-added 0x83 [] ping-added tt;
+  known = ping-known;
+  change = Changed.rearranged (put-in 9 2 (text "epEui") (lone 7) ping tt);
+}
+
+pub added-alike : (r q : Told) → Meant P r → Meant P-added q → Alike r q
+added-alike = alike 9 P P-added ping ping-added added
+
+-- the record is that of ping 1, and its epEui is 0: ping has none
+pub added-read : BothRead ping ping-added (λ m. (m .command ≡ 9) × (m .«op_id» ≡ pos 1) × (m .«ep_eui» ≡ 0))
+unfolding meaningOf rowIn leadBytes saidFrom commandOf placeIn commands lists listIn kinds kindIn judge cellsOf gravest lookIn placeOf messageOf readingAs readingOf
+added-read = record { message = _; first = refl; second = refl; shown = (refl, refl, refl) }
+
+-- it is answered with 5 and with 7 elements
+pub added-told : (r q : Told) → Meant P r → Meant P-added q → (r ≡ toldOf 5 (Reading.reads (added-read .message))) × (q ≡ toldOf 7 (Reading.reads (added-read .message)))
+unfolding countOf
+added-told r q M N = (answered P ping (added .first) (added-read .message) (added-read .first) r M, answered P-added ping-added (added .second) (added-read .message) (added-read .second) q N)
+
+-- Second: P with its ID as D3 00 00 00 00 00 00 00 01
+abbrev pub P-widened : List ℕ
+P-widened = take 19 P ++ 0xD3 ∷ 0 ∷ 0 ∷ 0 ∷ 0 ∷ 0 ∷ 0 ∷ 0 ∷ 1 ∷ []
+
+abbrev pub ping-widened : Pairs
+ping-widened = pairs ((text "command", text "ping") ∷ (text "opId", leaf 0xD3 [] (0 ∷ 0 ∷ 0 ∷ 0 ∷ 0 ∷ 0 ∷ 0 ∷ 1 ∷ [])) ∷ [])
+
+pub widened : Instance 9 P P-widened ping ping-widened
+unfolding isPayload isLawful headOf rowIn leadBytes bytesOf countOf depthOf pairsOf bigAt meaningOf
+widened = record {
+  first = ping-said;
+  second = says P-widened 0x82 [] ping-widened tt;
+  known = ping-known;
+  change = Changed.rearranged (respelled 9 ping ping-widened refl);
+}
+
+pub widened-alike : (r q : Told) → Meant P r → Meant P-widened q → Alike r q
+widened-alike = alike 9 P P-widened ping ping-widened widened
+
+pub widened-read : BothRead ping ping-widened (λ m. (m .command ≡ 9) × (m .«op_id» ≡ pos 1))
+unfolding bigAt meaningOf rowIn leadBytes saidFrom commandOf placeIn commands lists listIn kinds kindIn judge cellsOf gravest lookIn placeOf messageOf readingAs readingOf
+widened-read = record { message = _; first = refl; second = refl; shown = (refl, refl) }
+
+-- both have 5 elements
+pub widened-told : (r q : Told) → Meant P r → Meant P-widened q → (r ≡ toldOf 5 (Reading.reads (widened-read .message))) × (q ≡ toldOf 5 (Reading.reads (widened-read .message)))
+unfolding countOf
+widened-told r q M N = (answered P ping (widened .first) (widened-read .message) (widened-read .first) r M, answered P-widened ping-widened (widened .second) (widened-read .message) (widened-read .second) q N)
+
+-- Third: a ulData message with all its mandatory fields and its format once, as the integer 0
+abbrev pub U : List ℕ
+U = 0x8C ∷ []
+    ++ 0xA7 ∷ bytes "command" ++ 0xA6 ∷ bytes "ulData"
+    ++ 0xA4 ∷ bytes "opId" ++ 0x02 ∷ []
+    ++ 0xA5 ∷ bytes "epEui" ++ 0xCF ∷ 0x00 ∷ 0x01 ∷ 0x02 ∷ 0x03 ∷ 0x04 ∷ 0x05 ∷ 0x06 ∷ 0x07 ∷ []
+    ++ 0xA6 ∷ bytes "rxTime" ++ 0xCE ∷ 0x65 ∷ 0x00 ∷ 0x00 ∷ 0x00 ∷ []
+    ++ 0xA9 ∷ bytes "packetCnt" ++ 0x05 ∷ []
+    ++ 0xA3 ∷ bytes "snr" ++ 0xCA ∷ 0x41 ∷ 0x30 ∷ 0x00 ∷ 0x00 ∷ []
+    ++ 0xA4 ∷ bytes "rssi" ++ 0xCA ∷ 0xC2 ∷ 0xC2 ∷ 0x00 ∷ 0x00 ∷ []
+    ++ 0xA8 ∷ bytes "userData" ++ 0x93 ∷ 0x0A ∷ 0x0B ∷ 0x0C ∷ []
+    ++ 0xA6 ∷ bytes "format" ++ 0x00 ∷ []
+    ++ 0xA6 ∷ bytes "dlOpen" ++ 0xC3 ∷ []
+    ++ 0xAB ∷ bytes "responseExp" ++ 0xC2 ∷ []
+    ++ 0xA5 ∷ bytes "dlAck" ++ 0xC2 ∷ []
+
+abbrev station : Tree
+station = leaf 0xCF [] (0x00 ∷ 0x01 ∷ 0x02 ∷ 0x03 ∷ 0x04 ∷ 0x05 ∷ 0x06 ∷ 0x07 ∷ [])
+
+abbrev time : Tree
+time = leaf 0xCE [] (0x65 ∷ 0x00 ∷ 0x00 ∷ 0x00 ∷ [])
+
+-- 11 and −97
+abbrev snr : Tree
+snr = leaf 0xCA [] (0x41 ∷ 0x30 ∷ 0x00 ∷ 0x00 ∷ [])
+
+abbrev rssi : Tree
+rssi = leaf 0xCA [] (0xC2 ∷ 0xC2 ∷ 0x00 ∷ 0x00 ∷ [])
+
+abbrev user : Trees
+user = some (lone 0x0A) (some (lone 0x0B) (some (lone 0x0C) none))
+
+-- its pairs but for format
+abbrev pub uplink-bare : Pairs
+uplink-bare = pairs
+    ((text "command", text "ulData") ∷
+    (text "opId", lone 2) ∷
+    (text "epEui", station) ∷
+    (text "rxTime", time) ∷
+    (text "packetCnt", lone 5) ∷
+    (text "snr", snr) ∷
+    (text "rssi", rssi) ∷
+    (text "userData", array 0x93 [] user) ∷
+    (text "dlOpen", lone 0xC3) ∷
+    (text "responseExp", lone 0xC2) ∷
+    (text "dlAck", lone 0xC2) ∷ [])
+
+abbrev pub uplink : Pairs
+uplink = behind 8 (text "format") (lone 0) uplink-bare
+
+-- the same in the opposite order, with the head, a key, a text, two integers and an array in longer forms, with a map under the strange key
+-- `maker` that holds an `epEui`, and with no format
+abbrev pub U-changed : List ℕ
+U-changed = 0xDE ∷ 0x00 ∷ 0x0C ∷ []
+    ++ 0xA5 ∷ bytes "dlAck" ++ 0xC2 ∷ []
+    ++ 0xAB ∷ bytes "responseExp" ++ 0xC2 ∷ []
+    ++ 0xA6 ∷ bytes "dlOpen" ++ 0xC3 ∷ []
+    ++ 0xA5 ∷ bytes "maker" ++ 0x81 ∷ 0xA5 ∷ bytes "epEui" ++ 0x09 ∷ []
+    ++ 0xA8 ∷ bytes "userData" ++ 0xDC ∷ 0x00 ∷ 0x03 ∷ 0x0A ∷ 0x0B ∷ 0x0C ∷ []
+    ++ 0xA4 ∷ bytes "rssi" ++ 0xCA ∷ 0xC2 ∷ 0xC2 ∷ 0x00 ∷ 0x00 ∷ []
+    ++ 0xD9 ∷ 0x03 ∷ bytes "snr" ++ 0xCA ∷ 0x41 ∷ 0x30 ∷ 0x00 ∷ 0x00 ∷ []
+    ++ 0xA9 ∷ bytes "packetCnt" ++ 0xCD ∷ 0x00 ∷ 0x05 ∷ []
+    ++ 0xA6 ∷ bytes "rxTime" ++ 0xCE ∷ 0x65 ∷ 0x00 ∷ 0x00 ∷ 0x00 ∷ []
+    ++ 0xA5 ∷ bytes "epEui" ++ 0xCF ∷ 0x00 ∷ 0x01 ∷ 0x02 ∷ 0x03 ∷ 0x04 ∷ 0x05 ∷ 0x06 ∷ 0x07 ∷ []
+    ++ 0xA4 ∷ bytes "opId" ++ 0xD1 ∷ 0x00 ∷ 0x02 ∷ []
+    ++ 0xA7 ∷ bytes "command" ++ 0xD9 ∷ 0x06 ∷ bytes "ulData"
+
+abbrev maker : Tree
+maker = map 0x81 [] (pairs ((text "epEui", lone 9) ∷ []))
+
+abbrev pub uplink-changed : Pairs
+uplink-changed = pairs
+    ((text "dlAck", lone 0xC2) ∷
+    (text "responseExp", lone 0xC2) ∷
+    (text "dlOpen", lone 0xC3) ∷
+    (text "maker", maker) ∷
+    (text "userData", array 0xDC (0x00 ∷ 0x03 ∷ []) user) ∷
+    (text "rssi", rssi) ∷
+    (wideText "snr", snr) ∷
+    (text "packetCnt", leaf 0xCD [] (0x00 ∷ 0x05 ∷ [])) ∷
+    (text "rxTime", time) ∷
+    (text "epEui", station) ∷
+    (text "opId", leaf 0xD1 [] (0x00 ∷ 0x02 ∷ [])) ∷
+    (text "command", wideText "ulData") ∷ [])
+
+-- format to the front and out, the others turned round, `maker` put in behind three, and the widths
+uplink-change : Changed 7 uplink uplink-changed
+unfolding rowIn leadBytes bigAt meaningOf saidFrom lists listIn
+uplink-change =
+    Changed.next (Changed.rearranged (Rearranged.back (moved 7 8 (text "format") (lone 0) uplink-bare)))
+    (Changed.next (Changed.left-out refl refl refl)
+    (Changed.rearranged
+    (Rearranged.next (turn 7 uplink-bare)
+    (Rearranged.next (put-in 7 3 (text "maker") maker (turned uplink-bare end) tt)
+    (respelled 7 (behind 3 (text "maker") maker (turned uplink-bare end)) uplink-changed refl)))))
+
+pub changed : Instance 7 U U-changed uplink uplink-changed
+unfolding isPayload isLawful headOf rowIn leadBytes bytesOf countOf depthOf partsOf pairsOf bigAt meaningOf saidFrom commandOf placeIn commands
+changed = record {
+  first = says U 0x8C [] uplink tt;
+  second = says U-changed 0xDE (0x00 ∷ 0x0C ∷ []) uplink-changed tt;
+  known = record { name = bytes "ulData"; said = refl; is = refl; ours = lit< tt };
+  change = uplink-change;
+}
+
+pub changed-alike : (r q : Told) → Meant U r → Meant U-changed q → Alike r q
+changed-alike = alike 7 U U-changed uplink uplink-changed changed
+
+-- the nested epEui says nothing, and the format is 0 whether given or not
+abbrev pub Uplink : Message → Type 0
+Uplink m =
+    (m .command ≡ 7) × (m .«op_id» ≡ pos 2) × (m .«ep_eui» ≡ 0x0001_0203_0405_0607) × (m .«rx_time» ≡ 0x6500_0000) × (m .«packet_cnt» ≡ 5)
+    × (m .signal .snr ≡ fin false 11 (pos 0)) × (m .signal .rssi ≡ fin true 97 (pos 0))
+    × (m .«user_len» ≡ 3) × (take 3 (m .«user_data») ≡ 0x0A ∷ 0x0B ∷ 0x0C ∷ [])
+    × (m .format ≡ 0) × (m .«dl_open» ≡ true) × (m .«response_exp» ≡ false) × (m .«dl_ack» ≡ false)
+
+pub changed-read : BothRead uplink uplink-changed Uplink
+unfolding bigAt ofBits meaningOf rowIn leadBytes saidFrom commandOf placeIn commands lists listIn kinds kindIn octetsIn judge cellsOf gravest lookIn placeOf messageOf readingAs readingOf
+changed-read = record { message = _; first = refl; second = refl; shown = (refl, refl, refl, refl, refl, refl, refl, refl, refl, refl, refl, refl, refl) }
+
+-- 28 and 30 elements
+pub changed-told : (r q : Told) → Meant U r → Meant U-changed q → (r ≡ toldOf 28 (Reading.reads (changed-read .message))) × (q ≡ toldOf 30 (Reading.reads (changed-read .message)))
+unfolding countOf
+changed-told r q M N = (answered U uplink (changed .first) (changed-read .message) (changed-read .first) r M, answered U-changed uplink-changed (changed .second) (changed-read .message) (changed-read .second) q N)

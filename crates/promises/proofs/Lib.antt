@@ -1,0 +1,6 @@
+pub mod Steady
+pub mod Tested
+pub mod Moves
+pub mod Instances
+pub mod Limits
+pub mod Needed

@@ -1,0 +1,337 @@
+-- Demand 3. What an outer map says of a key does not depend on the order of its pairs nor on widths, and a strange pair says nothing of the
+-- command's keys; a reading goes by what is said of these alone. A format of 0 left out changes what is said of format from 0 to nothing,
+-- and both are kept as 0. Assumes nothing.
+use mathlib.Core.Path.{_≡_, refl, sym, ap, ap₂, subst, fun-ext, _∙_}
+use mathlib.Core.Bool.{Bool, true, false, _&&_}
+use mathlib.Core.List.{List, [], _∷_}
+use mathlib.Core.Option.{Option, some, none}
+use Prim.Native.Nat.{ℕ, zero, suc, _<_, max}
+use native.Mathlib.Omega.{arith}
+use lib.Dec.{T, ltb, leb, eqb, eqb→eq}
+use lib.IntN.{pos}
+use borrow.Author.Tests.{lt-ltb}
+use Rattle.octets.specs.Choice.{either}
+use Rattle.element.specs.Tree.{Tree, Pairs, countOf}
+use Rattle.element.specs.Tree.Tree.{map}
+use Rattle.element.specs.Tree.Pairs.{pair}
+use Rattle.element.specs.Meaning.{Element, Fields, keyOf, meaningOf, meaningOfPairs}
+use Rattle.element.specs.Meaning.Element.{whole}
+use Rattle.element.specs.Meaning.Fields.{no-field, field}
+use Rattle.octets.proofs.Ranges.{true-false, is-true, both-left, both-right}
+use Rattle.names.specs.Names.{bytes, sameBytes, commandOf}
+use Rattle.names.proofs.Same.{same-eq, eq-same}
+use Rattle.field.specs.Kind.{Kind, Value, kinds, kindIn, kindOf}
+use Rattle.field.specs.Judge.{when, judge}
+use Rattle.field.specs.Cell.{Said, Cell, judged, cellOf}
+use Rattle.message.specs.Fields.{Field, lists, listIn, headed, fieldsOf}
+use Rattle.message.specs.Record.{wordIn, messageOf}
+use Rattle.message.specs.Reading.{Reading, again, saidFrom, saidOf, cellsOf, faultOf, graded, gravest, lookIn, crossed, commandSaid, readingBy, readingAs, readingNamed, readingOf}
+use Rattle.message.specs.Meant.{Meant, outerOf, toldOf}
+use Rattle.message.specs.declared.Message.{Message}
+use Rattle.message.specs.declared.Told.{Told}
+use Rattle.promises.specs.Steady.{Strange, Rearranged, Changed, Known, Says, Alike}
+
+-- one pair more, for a key K
+abbrev saidWith : List ℕ → List ℕ → Element → Said → Said
+saidWith K u e x = either (sameBytes K u) (λ _. again e x) (λ _. x)
+
+again-swap : (e d : Element) (x : Said) → again e (again d x) ≡ again d (again e x)
+again-swap e d Said.absent = refl
+again-swap e d (Said.once y) = refl
+again-swap e d Said.twice = refl
+
+with-swap : (a b : Bool) (e d : Element) (x : Said)
+    → either a (λ _. again e (either b (λ _. again d x) (λ _. x))) (λ _. either b (λ _. again d x) (λ _. x))
+    ≡ either b (λ _. again d (either a (λ _. again e x) (λ _. x))) (λ _. either a (λ _. again e x) (λ _. x))
+with-swap true true e d x = again-swap e d x
+with-swap true false e d x = refl
+with-swap false true e d x = refl
+with-swap false false e d x = refl
+
+-- a key of the command's list, for which every strange key is another
+abbrev Ours : ℕ → List ℕ → Type 0
+Ours c K = (u : List ℕ) → Strange (fieldsOf c) u → sameBytes K u ≡ false
+
+-- what is said of one of our keys stays, whatever was said before
+rearranged-said : (c : ℕ) (K : List ℕ) → Ours c K → {ps qs : Pairs} → Rearranged c ps qs → (x : Said) → saidFrom K x (meaningOfPairs ps) ≡ saidFrom K x (meaningOfPairs qs)
+unfolding saidFrom meaningOf
+rearranged-said c K o Rearranged.same x = refl
+rearranged-said c K o (Rearranged.behind {k = k} {v = v} r) x = rearranged-said c K o r (saidWith K (keyOf k) (meaningOf v) x)
+rearranged-said c K o (Rearranged.swapped {k = k} {v = v} {j = j} {w = w} {ps = ps}) x =
+    ap (λ (y : Said). saidFrom K y (meaningOfPairs ps)) (with-swap (sameBytes K (keyOf j)) (sameBytes K (keyOf k)) (meaningOf w) (meaningOf v) x)
+rearranged-said c K o (Rearranged.added {k = k} {v = v} {ps = ps} h) x =
+    ap (λ (b : Bool). saidFrom K (either b (λ _. again (meaningOf v) x) (λ _. x)) (meaningOfPairs ps)) (sym (o (keyOf k) h))
+rearranged-said c K o (Rearranged.widened {ps = ps} e f) x =
+    ap₂ (λ (u : List ℕ) (d : Element). saidFrom K (saidWith K u d x) (meaningOfPairs ps)) e f
+rearranged-said c K o (Rearranged.next r t) x = rearranged-said c K o r x ∙ rearranged-said c K o t x
+rearranged-said c K o (Rearranged.back r) x = sym (rearranged-said c K o r x)
+
+-- what two messages say of a key alike: the same, or of format 0 and nothing
+data SaidAlike (K : List ℕ) : Said → Said → Type 0 where
+  equal : {x y : Said} → x ≡ y → SaidAlike K x y
+  zero-none : K ≡ bytes "format" → SaidAlike K (Said.once (whole (pos 0))) Said.absent
+  none-zero : K ≡ bytes "format" → SaidAlike K Said.absent (Said.once (whole (pos 0)))
+
+alike-next : {K : List ℕ} {x y z : Said} → SaidAlike K x y → SaidAlike K y z → SaidAlike K x z
+alike-next (equal e) b = rw e b
+alike-next (zero-none h) (equal e) = rw (← e) (zero-none h)
+alike-next (zero-none h) (none-zero g) = equal refl
+alike-next (none-zero h) (equal e) = rw (← e) (none-zero h)
+alike-next (none-zero h) (zero-none g) = equal refl
+
+alike-back : {K : List ℕ} {x y : Said} → SaidAlike K x y → SaidAlike K y x
+alike-back (equal e) = equal (sym e)
+alike-back (zero-none h) = none-zero h
+alike-back (none-zero h) = zero-none h
+
+-- what was said is never unsaid
+abbrev isSaid : Said → Bool
+isSaid Said.absent = false
+isSaid (Said.once e) = true
+isSaid Said.twice = true
+
+said-again : (a : Bool) (e : Element) (x : Said) → isSaid x ≡ true → isSaid (either a (λ _. again e x) (λ _. x)) ≡ true
+said-again false e x h = h
+said-again true e Said.absent h = refl
+said-again true e (Said.once d) h = refl
+said-again true e Said.twice h = refl
+
+stays-said : (K : List ℕ) (fs : Fields) (x : Said) → isSaid x ≡ true → isSaid (saidFrom K x fs) ≡ true
+unfolding saidFrom
+stays-said K no-field x h = h
+stays-said K (field u e fs) x h = stays-said K fs (saidWith K u e x) (said-again (sameBytes K u) e x h)
+
+-- pairs that say nothing of a key leave what was said before
+says-nothing : (K : List ℕ) (fs : Fields) → saidOf K fs ≡ Said.absent → (x : Said) → saidFrom K x fs ≡ x
+unfolding saidFrom
+says-nothing K no-field h x = refl
+says-nothing K (field u e fs) h x = go (says-nothing K fs) (sameBytes K u) h
+  where
+    go : (saidOf K fs ≡ Said.absent → (x : Said) → saidFrom K x fs ≡ x) → (b : Bool)
+        → saidFrom K (either b (λ _. again e Said.absent) (λ _. Said.absent)) fs ≡ Said.absent → saidFrom K (either b (λ _. again e x) (λ _. x)) fs ≡ x
+    go rest true h = true-false (sym (stays-said K fs (Said.once e) refl) ∙ ap isSaid h)
+    go rest false h = rest h x
+
+-- a format of 0 put in front, or left out
+left-out-said : (K : List ℕ) (k v : Tree) (ps : Pairs) → keyOf k ≡ bytes "format" → meaningOf v ≡ whole (pos 0)
+    → saidOf (bytes "format") (meaningOfPairs ps) ≡ Said.absent → SaidAlike K (saidOf K (meaningOfPairs (pair k v ps))) (saidOf K (meaningOfPairs ps))
+unfolding saidFrom meaningOf
+left-out-said K k v ps h e a = go (sameBytes K (keyOf k)) refl
+  where
+    go : (b : Bool) → sameBytes K (keyOf k) ≡ b
+        → SaidAlike K (saidFrom K (either b (λ _. Said.once (meaningOf v)) (λ _. Said.absent)) (meaningOfPairs ps)) (saidOf K (meaningOfPairs ps))
+    go true s =
+        let f : K ≡ bytes "format" = same-eq K (keyOf k) s ∙ h in
+        let n : saidOf K (meaningOfPairs ps) ≡ Said.absent = ap (λ (q : List ℕ). saidOf q (meaningOfPairs ps)) f ∙ a in
+        rw (says-nothing K (meaningOfPairs ps) n (Said.once (meaningOf v)), n, e) (zero-none f)
+    go false s = equal refl
+
+-- what is said of one of our keys stays alike
+changed-said : (c : ℕ) (K : List ℕ) → Ours c K → {ps qs : Pairs} → Changed c ps qs → SaidAlike K (saidOf K (meaningOfPairs ps)) (saidOf K (meaningOfPairs qs))
+changed-said c K o (Changed.rearranged r) = equal (rearranged-said c K o r Said.absent)
+changed-said c K o (Changed.left-out {k = k} {v = v} {ps = ps} h e a) = left-out-said K k v ps h e a
+changed-said c K o (Changed.next r t) = alike-next (changed-said c K o r) (changed-said c K o t)
+changed-said c K o (Changed.back r) = alike-back (changed-said c K o r)
+
+-- a 0 is worth a word of 0 under every kind, as is what is absent
+zero-word : (k : Kind) → wordIn (cellOf k (Said.once (whole (pos 0)))) ≡ 0
+unfolding judge
+zero-word (Kind.wholes lo hi) = go (leb 0 hi)
+  where
+    go : (b : Bool) → wordIn (judged (when b (Value.number (pos 0)))) ≡ 0
+    go true = refl
+    go false = refl
+zero-word Kind.reals = refl
+zero-word Kind.flags = refl
+zero-word Kind.places = refl
+zero-word (Kind.arrays lo hi) = refl
+zero-word (Kind.texts lo hi) = refl
+zero-word Kind.versions = refl
+zero-word Kind.words = refl
+zero-word Kind.maps = refl
+
+alike-word : (K : List ℕ) (x y : Said) → SaidAlike K x y → (k : Kind) → wordIn (cellOf k x) ≡ wordIn (cellOf k y)
+alike-word K x y (equal e) k = ap (λ (z : Said). wordIn (cellOf k z)) e
+alike-word K x y (zero-none h) k = zero-word k
+alike-word K x y (none-zero h) k = sym (zero-word k)
+
+-- a format is optional, and 0 is a format: one computed test over the lists
+abbrev isFormat : Field → Bool
+isFormat f = sameBytes (f .key) (bytes "format")
+
+abbrev formatFits : Field → Bool
+formatFits f = either (isFormat f) (λ _. eqb (faultOf (f .must) (cellOf (kindOf (f .kind)) (Said.once (whole (pos 0))))) 0 && eqb (faultOf (f .must) Cell.missing) 0) (λ _. true)
+
+abbrev formatsFit : List Field → Bool
+formatsFit [] = true
+formatsFit (f ∷ l) = formatFits f && formatsFit l
+
+abbrev allFit : List (List Field) → Bool
+allFit [] = true
+allFit (l ∷ ls) = formatsFit l && allFit ls
+
+in-fit : (ls : List (List Field)) → T (allFit ls) → T (formatsFit (headed [])) → (c : ℕ) → T (formatsFit (listIn ls c))
+unfolding listIn
+in-fit [] t h c = h
+in-fit (l ∷ ls) t h zero = both-left (formatsFit l) (allFit ls) t
+in-fit (l ∷ ls) t h (suc c) = in-fit ls (both-right (formatsFit l) (allFit ls) t) h c
+
+fields-fit : (c : ℕ) → T (formatsFit (fieldsOf c))
+unfolding lists kinds kindIn judge
+fields-fit c = in-fit lists tt tt c
+
+-- a format of 0 and an absent one are no fault
+zero-fault : (f : Field) → T (formatFits f) → f .key ≡ bytes "format"
+    → faultOf (f .must) (cellOf (kindOf (f .kind)) (Said.once (whole (pos 0)))) ≡ faultOf (f .must) Cell.missing
+zero-fault f t h =
+    let a = faultOf (f .must) (cellOf (kindOf (f .kind)) (Said.once (whole (pos 0)))) in
+    let b = faultOf (f .must) Cell.missing in
+    let s : isFormat f ≡ true = eq-same (f .key) (bytes "format") h in
+    let u : T (eqb a 0 && eqb b 0) = subst (λ (q : Bool). T (either q (λ _. eqb a 0 && eqb b 0) (λ _. true))) s t in
+    eqb→eq a 0 (both-left (eqb a 0) (eqb b 0) u) ∙ sym (eqb→eq b 0 (both-right (eqb a 0) (eqb b 0) u))
+
+-- the fault of a field is the same
+alike-fault : (f : Field) → T (formatFits f) → (x y : Said) → SaidAlike (f .key) x y
+    → faultOf (f .must) (cellOf (kindOf (f .kind)) x) ≡ faultOf (f .must) (cellOf (kindOf (f .kind)) y)
+alike-fault f t x y (equal e) = ap (λ (z : Said). faultOf (f .must) (cellOf (kindOf (f .kind)) z)) e
+alike-fault f t x y (zero-none h) = zero-fault f t h
+alike-fault f t x y (none-zero h) = sym (zero-fault f t h)
+
+-- two messages that say alike of every key of a list
+module _ (one two : List ℕ → Said) where
+  abbrev Alikes : List Field → Type 0
+  Alikes [] = Unit {0}
+  Alikes (f ∷ l) = SaidAlike (f .key) (one (f .key)) (two (f .key)) × Alikes l
+
+  same-gravest : (l : List Field) → T (formatsFit l) → Alikes l → (g i : ℕ) → gravest g i l (cellsOf l one) ≡ gravest g i l (cellsOf l two)
+  unfolding gravest cellsOf
+  same-gravest [] t a g i = refl
+  same-gravest (f ∷ l) t a g i =
+      ap (λ (n : ℕ). gravest (max g (graded n i)) (suc i) l (cellsOf l one)) (alike-fault f (both-left (formatFits f) (formatsFit l) t) (one (f .key)) (two (f .key)) (a .0))
+      ∙ same-gravest l (both-right (formatFits f) (formatsFit l) t) (a .1) (max g (graded (faultOf (f .must) (cellOf (kindOf (f .kind)) (two (f .key)))) i)) (suc i)
+
+  -- of a key that is not format the cell is the same
+  alike-cell : (f : Field) (k : List ℕ) → SaidAlike (f .key) (one (f .key)) (two (f .key)) → sameBytes (bytes "format") k ≡ false → f .key ≡ k
+      → cellOf (kindOf (f .kind)) (one (f .key)) ≡ cellOf (kindOf (f .kind)) (two (f .key))
+  alike-cell f k a n e = by-alike (one (f .key)) (two (f .key)) a
+    where
+      not-format : {A : Type 0} → f .key ≡ bytes "format" → A
+      not-format h = true-false (sym (eq-same (bytes "format") k (sym h ∙ e)) ∙ n)
+
+      by-alike : (x y : Said) → SaidAlike (f .key) x y → cellOf (kindOf (f .kind)) x ≡ cellOf (kindOf (f .kind)) y
+      by-alike x y (equal p) = ap (cellOf (kindOf (f .kind))) p
+      by-alike x y (zero-none h) = not-format h
+      by-alike x y (none-zero h) = not-format h
+
+  same-look : (k : List ℕ) → sameBytes (bytes "format") k ≡ false → (l : List Field) → Alikes l → (d e : Cell) → d ≡ e → lookIn d l (cellsOf l one) k ≡ lookIn e l (cellsOf l two) k
+  unfolding lookIn cellsOf
+  same-look k n [] a d e p = p
+  same-look k n (f ∷ l) a d e p =
+      same-look k n l (a .1) (either (sameBytes (f .key) k) (λ _. cellOf (kindOf (f .kind)) (one (f .key))) (λ _. d))
+      (either (sameBytes (f .key) k) (λ _. cellOf (kindOf (f .kind)) (two (f .key))) (λ _. e)) (go (sameBytes (f .key) k) refl)
+    where
+      go : (b : Bool) → sameBytes (f .key) k ≡ b → either b (λ _. cellOf (kindOf (f .kind)) (one (f .key))) (λ _. d) ≡ either b (λ _. cellOf (kindOf (f .kind)) (two (f .key))) (λ _. e)
+      go true s = alike-cell f k (a .0) n (same-eq (f .key) k s)
+      go false s = p
+
+  same-word : (k : List ℕ) (l : List Field) → Alikes l → (d e : Cell) → wordIn d ≡ wordIn e → wordIn (lookIn d l (cellsOf l one) k) ≡ wordIn (lookIn e l (cellsOf l two) k)
+  unfolding lookIn cellsOf
+  same-word k [] a d e p = p
+  same-word k (f ∷ l) a d e p =
+      same-word k l (a .1) (either (sameBytes (f .key) k) (λ _. cellOf (kindOf (f .kind)) (one (f .key))) (λ _. d))
+      (either (sameBytes (f .key) k) (λ _. cellOf (kindOf (f .kind)) (two (f .key))) (λ _. e)) (go (sameBytes (f .key) k))
+    where
+      go : (b : Bool) → wordIn (either b (λ _. cellOf (kindOf (f .kind)) (one (f .key))) (λ _. d)) ≡ wordIn (either b (λ _. cellOf (kindOf (f .kind)) (two (f .key))) (λ _. e))
+      go true = alike-word (f .key) (one (f .key)) (two (f .key)) (a .0) (kindOf (f .kind))
+      go false = p
+
+-- of a record that reads every key but format alike, and format's word
+alike-message : (c : ℕ) (one two : List ℕ → Cell) → ((k : List ℕ) → sameBytes (bytes "format") k ≡ false → one k ≡ two k)
+    → wordIn (one (bytes "format")) ≡ wordIn (two (bytes "format")) → messageOf c one ≡ messageOf c two
+unfolding messageOf
+alike-message c one two p w =
+    ap (messageOf c) (fun-ext meet) ∙ rw w
+  where
+    met : List ℕ → Cell
+    met k = either (sameBytes (bytes "format") k) (λ _. one k) (λ _. two k)
+
+    meet : (k : List ℕ) → one k ≡ met k
+    meet k = go (sameBytes (bytes "format") k) refl
+      where
+        go : (b : Bool) → sameBytes (bytes "format") k ≡ b → one k ≡ either b (λ _. one k) (λ _. two k)
+        go true s = refl
+        go false s = p k s
+
+-- every list begins with command: one computed test over the lists
+abbrev starts : List Field → Bool
+starts [] = false
+starts (f ∷ l) = sameBytes (f .key) (bytes "command")
+
+abbrev allStart : List (List Field) → Bool
+allStart [] = true
+allStart (l ∷ ls) = starts l && allStart ls
+
+in-start : (ls : List (List Field)) → T (allStart ls) → (c : ℕ) → T (starts (listIn ls c))
+unfolding listIn
+in-start [] t c = tt
+in-start (l ∷ ls) t zero = both-left (starts l) (allStart ls) t
+in-start (l ∷ ls) t (suc c) = in-start ls (both-right (starts l) (allStart ls) t) c
+
+command-ours : (c : ℕ) → Ours c (bytes "command")
+unfolding lists
+command-ours c u s = go (fieldsOf c) (in-start lists tt c) s
+  where
+    go : (l : List Field) → T (starts l) → Strange l u → sameBytes (bytes "command") u ≡ false
+    go [] t s = absurd t
+    go (f ∷ l) t s = rw (same-eq (f .key) (bytes "command") (sym (is-true (starts (f ∷ l)) t))) at (s .0)
+
+module _ (c : ℕ) (ps qs : Pairs) (change : Changed c ps qs) where
+  abbrev one : List ℕ → Said
+  one K = saidOf K (meaningOfPairs ps)
+
+  abbrev two : List ℕ → Said
+  two K = saidOf K (meaningOfPairs qs)
+
+  all-alike : (l : List Field) → ((u : List ℕ) → Strange (fieldsOf c) u → Strange l u) → Alikes one two l
+  all-alike [] o = tt
+  all-alike (f ∷ l) o = (changed-said c (f .key) (λ u s. o u s .0) change, all-alike l (λ u s. o u s .1))
+
+  -- the same fields, the same reading
+  same-as : readingAs c one ≡ readingAs c two
+  unfolding readingAs
+  same-as =
+      let l = fieldsOf c in
+      let a = all-alike l (λ u s. s) in
+      let look : (k : List ℕ) → sameBytes (bytes "format") k ≡ false → lookIn Cell.missing l (cellsOf l one) k ≡ lookIn Cell.missing l (cellsOf l two) k =
+      λ k n. same-look one two k n l a Cell.missing Cell.missing refl in
+      ap₂ (λ (g : ℕ) (m : Message). Rattle.message.specs.Reading.judged g m)
+      (ap₂ max (same-gravest one two l (fields-fit c) a 0 0) (rw (look (bytes "responseExp") refl, look (bytes "dlOpen") refl)))
+      (alike-message c (lookIn Cell.missing l (cellsOf l one)) (lookIn Cell.missing l (cellsOf l two)) look (same-word one two (bytes "format") l a Cell.missing Cell.missing refl))
+
+  -- the command is said alike, and it is the same
+  same-command : commandSaid (one (bytes "command")) ≡ commandSaid (two (bytes "command"))
+  same-command = go (one (bytes "command")) (two (bytes "command")) (changed-said c (bytes "command") (command-ours c) change)
+    where
+      go : (x y : Said) → SaidAlike (bytes "command") x y → commandSaid x ≡ commandSaid y
+      go x y (equal e) = ap commandSaid e
+      go x y (zero-none h) = refl
+      go x y (none-zero h) = refl
+
+  same-reading : Known c ps → readingOf (meaningOfPairs ps) ≡ readingOf (meaningOfPairs qs)
+  unfolding readingOf
+  same-reading k =
+      rw (← same-command, k .said, k .is, lt-ltb c 21 (k .ours)) same-as
+
+-- one reading told with two counts
+alike-told : (x y : ℕ) (a b : Reading) (r q : Told) → r ≡ toldOf x a → q ≡ toldOf y b → a ≡ b → Alike r q
+alike-told x y (Reading.refused n) b r q e f g = rw (e, f, ← g) (record { refusal = refl; place = refl; message = refl })
+alike-told x y (Reading.reads m) b r q e f g = rw (e, f, ← g) (record { refusal = refl; place = refl; message = refl })
+
+-- Demand 3, as one sentence: two payloads within our limits, the second a changed form of the first, a message of a command that we know, are
+-- read as the same record or the same refusal
+pub steady : (c : ℕ) (s t : List ℕ) (ps qs : Pairs) (r q : Told) → Says s ps → Says t qs → Known c ps → Changed c ps qs → Meant s r → Meant t q → Alike r q
+unfolding meaningOf
+steady c s t ps qs r q S T K C m n =
+    let a = m .whole (map (S .lead) (S .size) ps) (S .payload) in
+    let b = n .whole (map (T .lead) (T .size) qs) (T .payload) in
+    alike-told (countOf (map (S .lead) (S .size) ps)) (countOf (map (T .lead) (T .size) qs)) (readingOf (meaningOfPairs ps)) (readingOf (meaningOfPairs qs)) r q a b (same-reading c ps qs C K)

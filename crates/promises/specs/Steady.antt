@@ -1,0 +1,64 @@
+-- Demand 3: what makers may change without changing a reading, on trees and without a parser.
+use mathlib.Core.Path.{_≡_}
+use Prim.Native.Nat.{ℕ, _<_}
+use mathlib.Core.Bool.{Bool, true, false}
+use mathlib.Core.List.{List, [], _∷_}
+use mathlib.Core.Option.{Option, some}
+use lib.IntN.{pos}
+use Rattle.element.specs.Tree.{Tree, Pairs, Payload}
+use Rattle.element.specs.Tree.Tree.{map}
+use Rattle.element.specs.Tree.Pairs.{pair}
+use Rattle.element.specs.Meaning.{keyOf, meaningOf, meaningOfPairs}
+use Rattle.element.specs.Meaning.Element.{whole}
+use Rattle.names.specs.Names.{bytes, sameBytes, commandOf}
+use Rattle.field.specs.Cell.{Said}
+use Rattle.message.specs.Fields.{Field, fieldsOf}
+use Rattle.message.specs.Reading.{saidOf, commandSaid}
+use Rattle.message.specs.declared.Told.{Told}
+
+-- a key that none of these fields has
+abbrev pub Strange : List Field → List ℕ → Type 0
+Strange [] u = Unit {0}
+Strange (f ∷ l) u = (sameBytes (f .key) u ≡ false) × Strange l u
+
+-- pairs of a message of command c, put in another order, with strange pairs put in, and with other widths; any number of these, and back
+pub data Rearranged (c : ℕ) : Pairs → Pairs → Type 0 where
+  -- nothing changes
+  same : {ps : Pairs} → Rearranged c ps ps
+  -- something changes behind a pair
+  behind : {k v : Tree} {ps qs : Pairs} → Rearranged c ps qs → Rearranged c (pair k v ps) (pair k v qs)
+  -- two pairs change places
+  swapped : {k v j w : Tree} {ps : Pairs} → Rearranged c (pair k v (pair j w ps)) (pair j w (pair k v ps))
+  -- a pair whose key the command does not have is put in
+  added : {k v : Tree} {ps : Pairs} → Strange (fieldsOf c) (keyOf k) → Rearranged c ps (pair k v ps)
+  -- a key and a value are written with other widths: they mean the same
+  widened : {k v j w : Tree} {ps : Pairs} → keyOf k ≡ keyOf j → meaningOf v ≡ meaningOf w → Rearranged c (pair k v ps) (pair j w ps)
+  next : {ps qs rs : Pairs} → Rearranged c ps qs → Rearranged c qs rs → Rearranged c ps rs
+  back : {ps qs : Pairs} → Rearranged c ps qs → Rearranged c qs ps
+
+-- and a format that is given once, as the integer 0, left out
+pub data Changed (c : ℕ) : Pairs → Pairs → Type 0 where
+  rearranged : {ps qs : Pairs} → Rearranged c ps qs → Changed c ps qs
+  left-out : {k v : Tree} {ps : Pairs} → keyOf k ≡ bytes "format" → meaningOf v ≡ whole (pos 0)
+      → saidOf (bytes "format") (meaningOfPairs ps) ≡ Said.absent → Changed c (pair k v ps) ps
+  next : {ps qs rs : Pairs} → Changed c ps qs → Changed c qs rs → Changed c ps rs
+  back : {ps qs : Pairs} → Changed c ps qs → Changed c qs ps
+
+-- a message of one command, which we know
+pub record Known (c : ℕ) (ps : Pairs) : Type 0 where
+  pub name : List ℕ
+  pub said : commandSaid (saidOf (bytes "command") (meaningOfPairs ps)) ≡ some name
+  pub is : commandOf name ≡ c
+  pub ours : c < 21
+
+-- the payload s, within our limits, is an outer map of these pairs
+pub record Says (s : List ℕ) (ps : Pairs) : Type 0 where
+  pub lead : ℕ
+  pub size : List ℕ
+  pub payload : Payload s (map lead size ps)
+
+-- the same record or the same refusal; the count of elements may differ
+pub record Alike (r q : Told) : Type 0 where
+  pub refusal : r .refusal ≡ q .refusal
+  pub place : r .place ≡ q .place
+  pub message : r .message ≡ q .message
