@@ -1,0 +1,8 @@
+pub mod Codes
+pub mod Listed
+pub mod Fields
+pub mod Turns
+pub mod Stores
+pub mod Cells
+pub mod Here
+pub mod Settled

@@ -1,0 +1,18 @@
+-- No second answer meets a statement: each is an equation. Assumes nothing.
+use mathlib.Core.Path.{_≡_, sym, _∙_}
+use mathlib.Core.List.{List}
+use Prim.Native.Nat.{ℕ}
+use lib.ListN.{take}
+use Rattle.grades.specs.declared.FieldList.{FieldList}
+use Rattle.grades.specs.declared.Graded.{Graded}
+use Rattle.grades.specs.Codes.{listedOf}
+use Rattle.grades.specs.Graded.{ungraded, gradedFrom}
+
+pub list-of-settled : (command : ℕ) (r q : FieldList) → r ≡ listedOf command → q ≡ listedOf command → r ≡ q
+list-of-settled command r q e f = e ∙ sym f
+
+pub grade-settled : (s places : List ℕ) (list : FieldList) (r q : Graded) → r ≡ gradedFrom s places ungraded 0 (take (list .len) (list .codes))
+    → q ≡ gradedFrom s places ungraded 0 (take (list .len) (list .codes)) → r ≡ q
+grade-settled s places list r q e f = e ∙ sym f
+
+pub ruleset settled = (list-of-settled, grade-settled)

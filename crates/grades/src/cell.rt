@@ -1,0 +1,56 @@
+// One field of a list, read by its code.
+use crate::Held;
+ghost use mathlib.Core.Path.{_≡_};
+ghost use mathlib.Core.Bool.{_&&_, not};
+ghost use lib.Dec.{eqb};
+ghost use lib.ListN.{getD};
+ghost use Rattle.octets.specs.Choice.{either};
+ghost use Rattle.field.specs.Kind.{kindOf};
+ghost use Rattle.grades.specs.Codes.{mustIn, kindIn};
+ghost use Rattle.grades.specs.Read.{heldBy};
+
+pub fn wide(x: u16) -> usize
+    ensures { λ r. ⌜ r ≡ x ⌝ }
+{
+    x as usize
+}
+
+// The place of a slot; 0 past the slots.
+fn place_of(places: &[u16], slot: usize) -> u16
+    ensures { λ r. ⌜ r ≡ getD (now (places .entry)) slot 0 ⌝ }
+{
+    if slot < places.len() { places[slot] } else { 0 }
+}
+
+// The number of a code's kind; past the last kind all numbers are as 19.
+fn kind_of(code: u16) -> u8
+    ensures { λ r. ⌜ kindOf r ≡ kindOf (kindIn code) ⌝ }
+{
+    let kind = code / 128;
+    if kind < 19 { kind as u8 } else { 19 }
+}
+
+// The fault of a field that stands so: a missing one that is not mandatory has none.
+fn fault_of(code: u16, state: u8) -> u8
+    ensures { λ r. ⌜ r ≡ either (eqb state 2 && not (mustIn code)) (λ _. 0) (λ _. state) ⌝ }
+{
+    if state == 2 {
+        if code / 64 % 2 == 1 { 2 } else { 0 }
+    } else {
+        state
+    }
+}
+
+// What a coded field holds.
+pub fn held_by(s: &[u8], places: &[u16], code: u16) -> Held
+    ensures { λ r. ⌜ r ≡ heldBy (now (s .entry)) (now (places .entry)) code ⌝ }
+{
+    let place = place_of(places, wide(code % 64));
+    let cell = field::cell_at(s, wide(place), kind_of(code));
+    Held {
+        place: place,
+        fault: fault_of(code, cell.state),
+        word: cell.word,
+        figure: cell.figure,
+    }
+}

@@ -1,0 +1,128 @@
+// The fields of a command, judged one after the other by its list.
+mod cell;
+mod keys;
+mod lists;
+
+use lists::ATT_PRP;
+use lists::CON;
+use lists::CON_RSP;
+use lists::DET;
+use lists::DET_PRP;
+use lists::DET_RSP;
+use lists::SHORT;
+use lists::STATUS_RSP;
+use lists::UL_DATA;
+ghost use mathlib.Core.Path.{_≡_};
+ghost use Prim.Native.Nat.{_<_, min, max};
+ghost use lib.ListN.{take};
+ghost use Rattle.message.specs.Reading.{graded};
+ghost use Rattle.grades.specs.Codes.{listedOf};
+ghost use Rattle.grades.specs.Graded.{ungraded, gradedFrom};
+
+// A command's fields in their order: slot, 64 more where mandatory, and 128 times the kind.
+pub struct FieldList {
+    pub len: usize,
+    pub codes: [u16; 17],
+}
+
+// The gravest fault with its field's place; and by slot, for the command's own fields alone: where the value stands, its 64 bits, its real.
+pub struct Graded {
+    pub grade: u16,
+    pub own: [u16; 50],
+    pub words: [u64; 50],
+    pub figures: [f64; 50],
+}
+
+// A field of a list: where its value stands, its fault, and its value as 64 bits and as a real.
+struct Held {
+    place: u16,
+    fault: u8,
+    word: u64,
+    figure: f64,
+}
+
+// The fields of the command with a number; a number past the lists has command and opId alone.
+pub fn list_of(command: u8) -> FieldList
+    ensures { λ r. ⌜ r ≡ listedOf command ⌝ }
+{
+    if command == 7 {
+        return UL_DATA;
+    }
+    if command == 0 {
+        return CON;
+    }
+    if command == 1 {
+        return CON_RSP;
+    }
+    if command == 2 {
+        return STATUS_RSP;
+    }
+    if command == 3 {
+        return DET;
+    }
+    if command == 4 {
+        return DET_RSP;
+    }
+    if command == 5 {
+        return ATT_PRP;
+    }
+    if command == 6 {
+        return DET_PRP;
+    }
+    SHORT
+}
+
+// A fault with its field's place: a graver one is more, and of equal ones the first.
+fn grade_of(fault: u8, i: usize) -> u16
+    requires { ⌜ i < 64 ⌝ }
+    ensures { λ r. ⌜ r ≡ graded fault i ⌝ }
+{
+    if fault == 0 {
+        0
+    } else {
+        (fault as u16) * 64 + ((63 - i) as u16)
+    }
+}
+
+fn few(n: usize) -> usize
+    ensures { λ r. ⌜ r ≡ min n 17 ⌝ }
+{
+    if n < 17 { n } else { 17 }
+}
+
+fn graver(a: u16, b: u16) -> u16
+    ensures { λ r. ⌜ r ≡ max a b ⌝ }
+{
+    if a < b { b } else { a }
+}
+
+// The gravest fault of a list's fields, and what each of them holds. A list has at most seventeen.
+pub fn grade(s: &[u8], places: &[u16; 50], list: FieldList) -> Graded
+    ensures { λ r. ⌜ r ≡ gradedFrom (now (s .entry)) (now (places .entry)) ungraded 0 (take (list .len) (list .codes)) ⌝ }
+{
+    let codes = list.codes;
+    let end = few(list.len);
+    let mut worst: u16 = 0;
+    let mut own = [0u16; 50];
+    let mut words = [0u64; 50];
+    let mut figures = [0.0f64; 50];
+    let mut i: usize = 0;
+    while i < end {
+        let code = codes[i];
+        let slot = cell::wide(code % 64);
+        let field = cell::held_by(s, places, code);
+        worst = graver(worst, grade_of(field.fault, i));
+        i += 1;
+        if slot < 50 {
+            own[slot] = field.place;
+            words[slot] = field.word;
+            figures[slot] = field.figure;
+        }
+    }
+    Graded {
+        grade: worst,
+        own: own,
+        words: words,
+        figures: figures,
+    }
+}

@@ -1,0 +1,79 @@
+-- What the slots of a command hold: for each key its place, its 64 bits and its real, as its cell says.
+-- `Filled s own words figures look` is what `build` is to be called with for its result to be the record of `look` (proofs/Same).
+-- Its use: `look` is any function from a key to its cell, as `lookIn Cell.missing l cs` for the cells cs of a list l of document 01.
+-- Each slot k below 49 gets of the key's cell its word and its real; its place where the cell is good, and 0 where the key is missing.
+-- `kept-cell` gives `kept` of a field without fault; `kinds-of` says that a key has one kind, `kindFor`, in all lists.
+-- Assumes nothing.
+use mathlib.Core.Path.{_≡_, refl}
+use mathlib.Core.Bool.{Bool, true, false, _&&_}
+use mathlib.Core.List.{List, [], _∷_, _++_}
+use mathlib.Core.Option.{Option, some, none}
+use Prim.Native.Nat.{ℕ, zero, suc, _≤_, _<_}
+use native.Mathlib.Omega.{arith}
+use lib.Dec.{T, eqb}
+use lib.Ieee.{Float, nan}
+use lib.ListN.{getD}
+use Rattle.octets.specs.Choice.{either}
+use Rattle.octets.proofs.Ranges.{both-left, both-right}
+use Rattle.names.specs.Names.{keys, bytes, sameBytes, nameAt}
+use Rattle.field.specs.Kind.{Kind, Value, kindOf}
+use Rattle.field.specs.Judge.{judge}
+use Rattle.field.specs.Cell.{Cell, judged}
+use Rattle.field.specs.At.{shallowAt, cellAt}
+use Rattle.message.specs.Fields.{Field, headed, lists, listIn, fieldsOf, table}
+use Rattle.message.specs.Record.{wordIn, figureIn}
+use Rattle.message.specs.Reading.{faultOf}
+
+-- the number of the kind that a list gives a key; that of a map where it has none
+abbrev kindBy : List Field → List ℕ → ℕ
+kindBy [] u = table
+kindBy (f ∷ l) u = either (sameBytes (f .key) u) (λ _. f .kind) (λ _. kindBy l u)
+
+abbrev joined : List (List Field) → List Field
+joined [] = []
+joined (l ∷ ls) = l ++ joined ls
+
+-- the number of the kind that document 01 gives a key
+unfoldable pub kindFor : List ℕ → ℕ
+kindFor u = kindBy (joined lists) u
+
+-- each field of a list has its key's one kind
+abbrev pub agreed : List Field → Bool
+agreed [] = true
+agreed (f ∷ l) = eqb (kindFor (f .key)) (f .kind) && agreed l
+
+abbrev allAgreed : List (List Field) → Bool
+allAgreed [] = agreed (headed [])
+allAgreed (l ∷ ls) = agreed l && allAgreed ls
+
+agreed-in : (ls : List (List Field)) → T (allAgreed ls) → (c : ℕ) → T (agreed (listIn ls c))
+unfolding listIn
+agreed-in [] t c = t
+agreed-in (l ∷ ls) t zero = both-left (agreed l) (allAgreed ls) t
+agreed-in (l ∷ ls) t (suc c) = agreed-in ls (both-right (agreed l) (allAgreed ls) t) c
+
+pub kinds-of : (c : ℕ) → T (agreed (fieldsOf c))
+unfolding kindFor lists
+kinds-of c = agreed-in lists tt c
+
+-- a key's place and cell: missing at 0, or good under its kind
+pub data Kept (s : List ℕ) (k : Kind) : ℕ → Cell → Type 0 where
+  nowhere : Kept s k 0 Cell.missing
+  somewhere : (p : ℕ) (v : Value) → 2 ≤ p → judge k (shallowAt s p) ≡ some v → Kept s k p (Cell.good v)
+
+pub record Filled (s own words : List ℕ) (figures : List Float) (look : List ℕ → Cell) : Type 0 where
+  pub word-is : (k : ℕ) → k < 49 → getD words k 0 ≡ wordIn (look (nameAt keys k))
+  pub figure-is : (k : ℕ) → k < 49 → getD figures k nan ≡ figureIn (look (nameAt keys k))
+  pub kept : (k : ℕ) → k < 49 → Kept s (kindOf (kindFor (nameAt keys k))) (getD own k 0) (look (nameAt keys k))
+
+-- a field without fault is kept, where it stands
+module _ (s : List ℕ) (k : Kind) (must : Bool) where
+  judged-kept : (p : ℕ) (o : Option Value) → 2 ≤ p → judge k (shallowAt s p) ≡ o → faultOf must (judged o) ≡ 0 → Kept s k p (judged o)
+  judged-kept p none h e f = absurd (omega arith)
+  judged-kept p (some v) h e f = somewhere p v h e
+
+  pub kept-cell : (p : ℕ) → faultOf must (cellAt k s p) ≡ 0 → Kept s k p (cellAt k s p)
+  unfolding cellAt
+  kept-cell zero f = nowhere
+  kept-cell (suc zero) f = absurd (omega arith)
+  kept-cell (suc (suc p)) f = judged-kept (suc (suc p)) (judge k (shallowAt s (suc (suc p)))) (omega arith) refl f
