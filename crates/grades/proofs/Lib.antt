@@ -4,5 +4,5 @@ pub mod Fields
 pub mod Turns
 pub mod Stores
 pub mod Cells
-pub mod Here
+pub mod Faultless
 pub mod Settled

@@ -1,0 +1,4 @@
+pub mod Across
+pub mod Filling
+pub mod Answers
+pub mod Settled
