@@ -4,6 +4,7 @@ ghost use mathlib.Core.Path.{_≡_};
 ghost use Prim.Native.Nat.{_+_, _^_, _≤_, _<_};
 ghost use lib.ListN.{length};
 ghost use Rattle.octets.specs.Number.{bigAt, littleAt, isThere, ifThere};
+ghost use Rattle.octets.specs.Low.{areLow};
 ghost use Rattle.octets.specs.Bytes.{bigBytes, littleBytes, putAt, putNumber};
 
 // The number that n bytes from `at` write, the first weighing most; 0 unless n is at most 8 and all are there.
@@ -62,6 +63,26 @@ pub fn is_there(len: usize, at: usize, n: usize) -> bool
         return false;
     }
     true
+}
+
+// Eight bytes from `at` on are there, and each is below 0x80: eight numbers of one byte each.
+pub fn eight_low(s: &[u8], at: usize) -> bool
+    ensures { λ r. ⌜ r ≡ areLow (now (s .entry)) at 8 ⌝ }
+{
+    if s.len() < 8 {
+        return false;
+    }
+    if s.len() - 8 < at {
+        return false;
+    }
+    (s[at] < 0x80)
+        & (s[at + 1] < 0x80)
+        & (s[at + 2] < 0x80)
+        & (s[at + 3] < 0x80)
+        & (s[at + 4] < 0x80)
+        & (s[at + 5] < 0x80)
+        & (s[at + 6] < 0x80)
+        & (s[at + 7] < 0x80)
 }
 
 // n bytes that are there. Eight are read as two numbers of four: each of these is one load.
