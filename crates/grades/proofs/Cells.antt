@@ -17,9 +17,8 @@ use Rattle.message.specs.Fields.{Field}
 use Rattle.message.specs.Record.{wordIn, figureIn}
 use Rattle.message.specs.Reading.{faultOf, graded, gravest, lookIn}
 use Rattle.message.specs.Cells.{cellsAt}
-use Rattle.grades.specs.declared.Graded.{Graded}
 use Rattle.grades.specs.Codes.{codeOf, slotIn}
-use Rattle.grades.specs.Graded.{cellBy, gradedBy, ungraded, gradedFrom}
+use Rattle.grades.specs.Graded.{Graded, cellBy, gradedBy, ungraded, gradedFrom}
 use Rattle.grades.proofs.Stores.{stored, stored-length, stored-blank, last}
 use Rattle.grades.proofs.Codes.{slot-in, must-in, cell-by, known}
 
@@ -67,18 +66,18 @@ module _ (s places : List ℕ) where
   figures-stored [] g i = refl
   figures-stored (code ∷ l) g i = figures-stored l (gradedBy i code (getD places (slotIn code) 0) (cellBy s places code) g) (suc i)
 
-  -- the lists keep their fifty places
-  pub own-length : (l : List ℕ) → length (gradedFrom s places ungraded 0 l .own) ≡ 50
+  -- the lists keep their places
+  pub own-length : (l : List ℕ) → length (gradedFrom s places ungraded 0 l .own) ≡ 64
   unfolding ungraded
-  own-length l = ap length (own-stored l ungraded 0) ∙ stored-length (λ code. getD places (slotIn code) 0) l (replicate 50 0)
+  own-length l = ap length (own-stored l ungraded 0) ∙ stored-length (λ code. getD places (slotIn code) 0) l (replicate 64 0)
 
-  pub words-length : (l : List ℕ) → length (gradedFrom s places ungraded 0 l .words) ≡ 50
+  pub words-length : (l : List ℕ) → length (gradedFrom s places ungraded 0 l .words) ≡ 64
   unfolding ungraded
-  words-length l = ap length (words-stored l ungraded 0) ∙ stored-length (λ code. wordIn (cellBy s places code)) l (replicate 50 0)
+  words-length l = ap length (words-stored l ungraded 0) ∙ stored-length (λ code. wordIn (cellBy s places code)) l (replicate 64 0)
 
-  pub figures-length : (l : List ℕ) → length (gradedFrom s places ungraded 0 l .figures) ≡ 50
+  pub figures-length : (l : List ℕ) → length (gradedFrom s places ungraded 0 l .figures) ≡ 64
   unfolding ungraded
-  figures-length l = ap length (figures-stored l ungraded 0) ∙ stored-length (λ code. figureIn (cellBy s places code)) l (replicate 50 zero64)
+  figures-length l = ap length (figures-stored l ungraded 0) ∙ stored-length (λ code. figureIn (cellBy s places code)) l (replicate 64 zero64)
 
   -- what the cell of a key is worth, by any measure φ
   look-is : {A : Type 0} (φ : Cell → A) (l : List Field) (d : Cell) (k : List ℕ)

@@ -1,5 +1,4 @@
--- One field, read by its code: the cell settles its fault, its 64 bits and its real; a number past the kinds is a map's, and a slot past the
--- places is nowhere. Assumes nothing.
+-- One field, read by its code: the cell settles its fault, its 64 bits and its real; a number past the kinds is a map's. Assumes nothing.
 use mathlib.Core.Path.{_≡_, refl, sym, ap, _∙_}
 use mathlib.Core.Bool.{Bool, true, false, _&&_, not}
 use mathlib.Core.List.{List, [], _∷_}
@@ -7,7 +6,7 @@ use Prim.Native.Nat.{ℕ, zero, suc, _/_, _%_, _≤_}
 use native.Mathlib.Nat.{le-of-suc-le-suc, not-suc-le-zero}
 use lib.Dec.{eqb, lit≤}
 use lib.Ieee.{Float}
-use lib.ListN.{length, getD, List·getD-eq-default}
+use lib.ListN.{length, getD}
 use borrow.Author.Tests.{eq-eqb, ne-eqb}
 use Rattle.octets.specs.Choice.{either}
 use Rattle.field.specs.declared.Judged.{Judged}
@@ -30,9 +29,6 @@ past-kinds (k ∷ ks) (suc n) h = past-kinds ks n (le-of-suc-le-suc h)
 pub kind-past : (n : ℕ) → 19 ≤ n → kindOf 19 ≡ kindOf n
 unfolding kinds
 kind-past n h = past-kinds kinds 19 (lit≤ tt) ∙ sym (past-kinds kinds n h)
-
-pub place-past : (places : List ℕ) (slot : ℕ) → length places ≤ slot → 0 ≡ getD places slot 0
-place-past places slot h = sym (List·getD-eq-default places 0 h)
 
 -- what a cell's told form says
 told-state : (x : Cell) → toldOf x .state ≡ stateOf x
@@ -88,4 +84,4 @@ held s places code slot place p kind fault state word figure es ep eq ek ec ef =
     let g : figure ≡ figureIn x = ap (λ (j : Judged). j .figure) ec ∙ told-figure x in
     cc
 
-pub ruleset fields = (kind-past, place-past, lacking, spared, other, held)
+pub ruleset fields = (kind-past, lacking, spared, other, held)

@@ -32,7 +32,7 @@ module _ {A : Type 0} (v : ℕ → A) where
   last k d [] = d
   last k d (f ∷ l) = last k (either (sameBytes (f .key) k) (λ _. v (codeOf f)) (λ _. d)) l
 
-  stored-one : (a : List A) (f : Field) (k : List ℕ) (z : A) → length a ≡ 50 → slotOf (f .key) < 49
+  stored-one : (a : List A) (f : Field) (k : List ℕ) (z : A) → length a ≡ 64 → slotOf (f .key) < 49
       → getD (set a (slotIn (codeOf f)) (v (codeOf f))) (slotOf k) z ≡ either (sameBytes (f .key) k) (λ _. v (codeOf f)) (λ _. getD a (slotOf k) z)
   stored-one a f k z n h = rw slot-in (by (sameBytes (f .key) k) refl)
     where
@@ -43,7 +43,7 @@ module _ {A : Type 0} (v : ℕ → A) where
       by false e =
           getD-set-other a (slotOf (f .key)) (slotOf k) (v (codeOf f)) z (eqb-false (slotOf k) (slotOf (f .key)) (sym (same-slot (f .key) k h) ∙ e))
 
-  stored-is : (l : List Field) → T (known l) → (a : List A) (k : List ℕ) (z : A) → length a ≡ 50
+  stored-is : (l : List Field) → T (known l) → (a : List A) (k : List ℕ) (z : A) → length a ≡ 64
       → getD (stored a (map codeOf l)) (slotOf k) z ≡ last k (getD a (slotOf k) z) l
   stored-is [] t a k z n = refl
   stored-is (f ∷ l) t a k z n =
@@ -54,7 +54,7 @@ module _ {A : Type 0} (v : ℕ → A) where
       ∙ ap (λ (d : A). last k d l) (stored-one a f k z n h)
 
   -- from a list with one value in all places
-  pub stored-blank : (l : List Field) → T (known l) → (k : List ℕ) (z : A) → getD (stored (replicate 50 z) (map codeOf l)) (slotOf k) z ≡ last k z l
+  pub stored-blank : (l : List Field) → T (known l) → (k : List ℕ) (z : A) → getD (stored (replicate 64 z) (map codeOf l)) (slotOf k) z ≡ last k z l
   stored-blank l t k z =
-      stored-is l t (replicate 50 z) k z (length-replicate 50 z)
-      ∙ ap (λ (d : A). last k d l) (getD-replicate 50 (slotOf k) z z (omega (arith, slot-small k)))
+      stored-is l t (replicate 64 z) k z (length-replicate 64 z)
+      ∙ ap (λ (d : A). last k d l) (getD-replicate 64 (slotOf k) z z (omega (arith, slot-small k)))

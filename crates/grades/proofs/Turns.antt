@@ -1,5 +1,4 @@
--- The loop over a list: the answer from each place on is the answer. A field that is judged carries it over to the next place, and a slot past
--- the last changes nothing. Assumes nothing.
+-- The loop over a list: the answer from each place on is the answer. A field that is judged carries it over to the next place. Assumes nothing.
 use mathlib.Core.Path.{_≡_, refl, sym, ap, _∙_}
 use mathlib.Core.Bool.{Bool, true, false}
 use mathlib.Core.List.{List, _∷_}
@@ -8,16 +7,15 @@ use native.Mathlib.Omega.{arith}
 use native.Mathlib.Numerals.{add-one}
 use lib.Dec.{ltb}
 use lib.Ieee.{Float}
-use lib.ListN.{length, getD, take, drop, set, replicate, length-take, length-set, drop-of-length-le}
-use lib.Seq.{take-all, drop-cons, getD-take, set-out}
+use lib.ListN.{length, getD, take, drop, set, replicate, length-take, drop-of-length-le}
+use lib.Seq.{take-all, drop-cons, getD-take}
 use borrow.Author.Tests.{ltb-true, ltb-false}
 use Rattle.field.specs.Cell.{zero64}
 use Rattle.message.specs.Record.{wordIn, figureIn}
 use Rattle.message.specs.Reading.{faultOf, graded}
 use Rattle.grades.specs.declared.Held.{Held}
-use Rattle.grades.specs.declared.Graded.{Graded}
 use Rattle.grades.specs.Codes.{slotIn, mustIn}
-use Rattle.grades.specs.Graded.{cellBy, gradedBy, ungraded, gradedFrom}
+use Rattle.grades.specs.Graded.{Graded, cellBy, gradedBy, gradedFrom}
 use Rattle.grades.specs.Read.{heldBy}
 
 pub none-graded : (fault i : ℕ) → fault ≡ 0 → 0 ≡ graded fault i
@@ -28,35 +26,29 @@ some-graded zero i e = absurd (e refl)
 some-graded (suc f) i e = refl
 
 -- what the loop holds at a place: the answer from here is the answer
-pub record Going (s places codes : List ℕ) (end i worst : ℕ) (own words : List ℕ) (figures : List Float) : Type 0 where
+pub record Going (s places codes : List ℕ) (first : Graded) (end i worst : ℕ) (own words : List ℕ) (figures : List Float) : Type 0 where
   pub counted : length codes ≡ 17
   pub few : end ≤ 17
   pub within : i ≤ end
-  pub has-own : length own ≡ 50
-  pub has-words : length words ≡ 50
-  pub has-figures : length figures ≡ 50
   pub goes :
       gradedFrom s places (record { grade = worst; own = own; words = words; figures = figures }) i (drop i (take end codes)) ≡
-      gradedFrom s places ungraded 0 (take end codes)
+      gradedFrom s places first 0 (take end codes)
 
-pub begins : (s places codes : List ℕ) (len end : ℕ) → length codes ≡ 17 → end ≡ min len 17
-    → Going s places codes end 0 0 (replicate 50 0) (replicate 50 0) (replicate 50 zero64)
-unfolding ungraded
-begins s places codes len end h e = record {
+pub begins : (s places codes own words : List ℕ) (figures : List Float) (len end : ℕ)
+    → length codes ≡ 17 → end ≡ min len 17
+    → Going s places codes (record { grade = 0; own = own; words = words; figures = figures }) end 0 0 own words figures
+begins s places codes own words figures len end h e = record {
   counted = h;
   few = omega arith;
   within = omega arith;
-  has-own = refl;
-  has-words = refl;
-  has-figures = refl;
   goes = refl;
 }
 
-module _ {s places codes : List ℕ} {end i worst : ℕ} {own words : List ℕ} {figures : List Float} {slot place fault word : ℕ} {figure : Float} {n next : ℕ}
+module _ {s places codes : List ℕ} {first : Graded} {end i worst : ℕ} {own words : List ℕ} {figures : List Float} {slot place fault word : ℕ} {figure : Float} {n next : ℕ}
     (hi : i < end) (es : slot ≡ getD codes i 0 % 64)
     (h : _≡_ {A = Held} (record { place = place; fault = fault; word = word; figure = figure }) (heldBy s places (getD codes i 0)))
-    (eg : n ≡ graded fault i) (en : next ≡ max worst n) (inv : Going s places codes end i worst own words figures) where
-  pub turn : Going s places codes end (i + 1) next (set own slot place) (set words slot word) (set figures slot figure)
+    (eg : n ≡ graded fault i) (en : next ≡ max worst n) (inv : Going s places codes first end i worst own words figures) where
+  pub turn : Going s places codes first end (i + 1) next (set own slot place) (set words slot word) (set figures slot figure)
   unfolding gradedFrom heldBy
   turn =
       let code = getD codes i 0 in
@@ -77,17 +69,8 @@ module _ {s places codes : List ℕ} {end i worst : ℕ} {own words : List ℕ} 
         counted = inv .counted;
         few = inv .few;
         within = omega arith;
-        has-own = simp length-set (inv .has-own);
-        has-words = simp length-set (inv .has-words);
-        has-figures = simp length-set (inv .has-figures);
         goes = rw (add-one, e) (rw d at (inv .goes));
       }
-
-  -- a slot past the last
-  pub turn-past : 50 ≤ slot → Going s places codes end (i + 1) next own words figures
-  turn-past hs =
-      rw (set-out own slot place (omega arith), set-out words slot word (omega arith), set-out figures slot figure (omega arith))
-      at turn
 
 -- a list has seventeen codes, so a length over 17 counts as 17
 few-enough : (codes : List ℕ) (len end : ℕ) → end ≡ min len 17 → length codes ≡ 17 → take end codes ≡ take len codes
@@ -97,12 +80,12 @@ few-enough codes len end e h = by (ltb 17 len) refl
     by true l = take-all end codes (omega (arith, ltb-true 17 len l)) ∙ sym (take-all len codes (omega (arith, ltb-true 17 len l)))
     by false l = let n : end ≡ len = omega (arith, ltb-false 17 len l) in rw n
 
-pub done : (s places codes : List ℕ) (len end i worst : ℕ) (own words : List ℕ) (figures : List Float) → end ≤ i → end ≡ min len 17
-    → Going s places codes end i worst own words figures
-    → _≡_ {A = Graded} (record { grade = worst; own = own; words = words; figures = figures }) (gradedFrom s places ungraded 0 (take len codes))
+pub done : (s places codes : List ℕ) (first : Graded) (len end i worst : ℕ) (own words : List ℕ) (figures : List Float) → end ≤ i → end ≡ min len 17
+    → Going s places codes first end i worst own words figures
+    → _≡_ {A = Graded} (record { grade = worst; own = own; words = words; figures = figures }) (gradedFrom s places first 0 (take len codes))
 unfolding gradedFrom
-done s places codes len end i worst own words figures h e inv =
+done s places codes first len end i worst own words figures h e inv =
     let n : length (take end codes) ≤ i = simp length-take (omega arith) in
     rw (drop-of-length-le (take end codes) n, few-enough codes len end e (inv .counted)) at (inv .goes)
 
-pub ruleset turns = (none-graded, some-graded, begins, done)
+pub ruleset turns = (none-graded, some-graded, begins, turn, done)

@@ -1,6 +1,7 @@
 -- The faults and values of a list of fields, by places in the bytes.
 use Prim.Native.Nat.{ℕ, suc, max}
 use mathlib.Core.List.{List, [], _∷_}
+use lib.Ieee.{Float}
 use lib.ListN.{getD, set, replicate}
 use Rattle.field.specs.Kind.{kindOf}
 use Rattle.field.specs.Cell.{Cell, zero64}
@@ -8,7 +9,13 @@ use Rattle.field.specs.At.{cellAt}
 use Rattle.message.specs.Record.{wordIn, figureIn}
 use Rattle.message.specs.Reading.{faultOf, graded}
 use Rattle.grades.specs.Codes.{slotIn, mustIn, kindIn}
-use Rattle.grades.specs.declared.Graded.{Graded}
+
+-- the gravest fault with its field's place; and by slot: where the value stands, its 64 bits, its real
+pub record Graded : Type 0 where
+  pub grade : ℕ
+  pub own : List ℕ
+  pub words : List ℕ
+  pub figures : List Float
 
 -- the cell of a coded field
 abbrev pub cellBy : List ℕ → List ℕ → ℕ → Cell
@@ -16,7 +23,7 @@ cellBy s places code = cellAt (kindOf (kindIn code)) s (getD places (slotIn code
 
 -- no field yet
 unfoldable pub ungraded : Graded
-ungraded = record { grade = 0; own = replicate 50 0; words = replicate 50 0; figures = replicate 50 zero64 }
+ungraded = record { grade = 0; own = replicate 64 0; words = replicate 64 0; figures = replicate 64 zero64 }
 
 -- one field more, at place i of its list
 abbrev pub gradedBy : ℕ → ℕ → ℕ → Cell → Graded → Graded

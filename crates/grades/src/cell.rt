@@ -3,7 +3,6 @@ use crate::Held;
 ghost use mathlib.Core.Path.{_≡_};
 ghost use mathlib.Core.Bool.{_&&_, not};
 ghost use lib.Dec.{eqb};
-ghost use lib.ListN.{getD};
 ghost use Rattle.octets.specs.Choice.{either};
 ghost use Rattle.field.specs.Kind.{kindOf};
 ghost use Rattle.grades.specs.Codes.{mustIn, kindIn};
@@ -13,13 +12,6 @@ pub fn wide(x: u16) -> usize
     ensures { λ r. ⌜ r ≡ x ⌝ }
 {
     x as usize
-}
-
-// The place of a slot; 0 past the slots.
-fn place_of(places: &[u16], slot: usize) -> u16
-    ensures { λ r. ⌜ r ≡ getD (now (places .entry)) slot 0 ⌝ }
-{
-    if slot < places.len() { places[slot] } else { 0 }
 }
 
 // The number of a code's kind; past the last kind all numbers are as 19.
@@ -42,10 +34,10 @@ fn fault_of(code: u16, state: u8) -> u8
 }
 
 // What a coded field holds.
-pub fn held_by(s: &[u8], places: &[u16], code: u16) -> Held
+pub fn held_by(s: &[u8], places: &[u16; 64], code: u16) -> Held
     ensures { λ r. ⌜ r ≡ heldBy (now (s .entry)) (now (places .entry)) code ⌝ }
 {
-    let place = place_of(places, wide(code % 64));
+    let place = places[wide(code % 64)];
     let cell = field::cell_at(s, wide(place), kind_of(code));
     Held {
         place: place,

@@ -17,20 +17,12 @@ ghost use Prim.Native.Nat.{_<_, min, max};
 ghost use lib.ListN.{take};
 ghost use Rattle.message.specs.Reading.{graded};
 ghost use Rattle.grades.specs.Codes.{listedOf};
-ghost use Rattle.grades.specs.Graded.{ungraded, gradedFrom};
+ghost use Rattle.grades.specs.Graded.{Graded, gradedFrom};
 
 // A command's fields in their order: slot, 64 more where mandatory, and 128 times the kind.
 pub struct FieldList {
     pub len: usize,
     pub codes: [u16; 17],
-}
-
-// The gravest fault with its field's place; and by slot, for the command's own fields alone: where the value stands, its 64 bits, its real.
-pub struct Graded {
-    pub grade: u16,
-    pub own: [u16; 50],
-    pub words: [u64; 50],
-    pub figures: [f64; 50],
 }
 
 // A field of a list: where its value stands, its fault, and its value as 64 bits and as a real.
@@ -96,33 +88,31 @@ fn graver(a: u16, b: u16) -> u16
     if a < b { b } else { a }
 }
 
-// The gravest fault of a list's fields, and what each of them holds. A list has at most seventeen.
-pub fn grade(s: &[u8], places: &[u16; 50], list: FieldList) -> Graded
-    ensures { λ r. ⌜ r ≡ gradedFrom (now (s .entry)) (now (places .entry)) ungraded 0 (take (list .len) (list .codes)) ⌝ }
+// The gravest fault of a list's fields, with its field's place in the list; and by slot, for these fields alone: where the value stands,
+// its 64 bits, its real. A list has at most seventeen.
+pub fn grade(
+    s: &[u8],
+    places: &[u16; 64],
+    list: FieldList,
+    own: &mut [u16; 64],
+    words: &mut [u64; 64],
+    figures: &mut [f64; 64],
+) -> u16
+    ensures { λ r. ⌜ _≡_ {A = Graded} (record { grade = r; own = now (own .exit); words = now (words .exit); figures = now (figures .exit) }) (gradedFrom (now (s .entry)) (now (places .entry)) (record { grade = 0; own = now (own .entry); words = now (words .entry); figures = now (figures .entry) }) 0 (take (list .len) (list .codes))) ⌝ }
 {
     let codes = list.codes;
     let end = few(list.len);
     let mut worst: u16 = 0;
-    let mut own = [0u16; 50];
-    let mut words = [0u64; 50];
-    let mut figures = [0.0f64; 50];
     let mut i: usize = 0;
     while i < end {
         let code = codes[i];
         let slot = cell::wide(code % 64);
         let field = cell::held_by(s, places, code);
         worst = graver(worst, grade_of(field.fault, i));
+        own[slot] = field.place;
+        words[slot] = field.word;
+        figures[slot] = field.figure;
         i += 1;
-        if slot < 50 {
-            own[slot] = field.place;
-            words[slot] = field.word;
-            figures[slot] = field.figure;
-        }
     }
-    Graded {
-        grade: worst,
-        own: own,
-        words: words,
-        figures: figures,
-    }
+    worst
 }

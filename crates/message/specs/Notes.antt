@@ -36,4 +36,4 @@ notesOf s (suc n) p c a =
 
 -- no key has a place yet
 abbrev pub unnoted : List ℕ
-unnoted = replicate 50 0
+unnoted = replicate 64 0

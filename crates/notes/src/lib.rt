@@ -13,7 +13,7 @@ ghost use Rattle.notes.specs.Noted.{notedOf, openedOf, BeginsMap, IsText
 // The walk's answer, and the place of each key's value by slot: 0 nowhere, 1 more than once. Slot 49 is for keys of no command.
 pub struct Noted {
     pub step: Step,
-    pub places: [u16; 50],
+    pub places: [u16; 64],
 }
 
 // The outer element of a payload, and the places of its map's values.

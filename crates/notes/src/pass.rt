@@ -18,7 +18,7 @@ pub fn pass_pairs(s: &[u8], from: usize, n: usize) -> Noted
     ensures walk { λ r. ⌜ r .step ≡ itemsOf (now (s .entry)) 7 true n from 1 ⌝ }
     ensures places { λ r. ⌜ r .places ≡ notesOf (now (s .entry)) n from 1 unnoted ⌝ }
 {
-    let mut at = [0u16; 50];
+    let mut at = [0u16; 64];
     let mut k = n;
     let mut x = from;
     let mut c: usize = 1;
@@ -59,7 +59,7 @@ pub fn broken(number: u8) -> Noted
 {
     Noted {
         step: Step::Broken { number, place: 0 },
-        places: [0u16; 50],
+        places: [0u16; 64],
     }
 }
 

@@ -18,7 +18,7 @@ use Rattle.message.specs.Fields.{lists, listIn, fieldsOf}
 use Rattle.message.specs.Record.{wordIn, markIn}
 use Rattle.message.specs.Reading.{lookIn, placeOf, crossed}
 use Rattle.message.specs.Cells.{cellsAt}
-use Rattle.reading.specs.Crossing.{crossedBy}
+use Rattle.reading.specs.Ways.{crossedBy}
 
 -- a flag's word
 mark-word : (o : Option Bool) → eqb (wordIn (judged (onSome o (λ b. some (Value.mark b))))) 1 ≡ markIn (judged (onSome o (λ b. some (Value.mark b))))

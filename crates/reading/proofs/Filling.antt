@@ -80,12 +80,12 @@ module _ (s places : List ℕ) (c : ℕ) where
   }
 
 -- no field at all
-nothing-filled : (s : List ℕ) → Filled s (replicate 50 0) (replicate 50 0) (replicate 50 zero64) (λ k. Cell.missing)
+nothing-filled : (s : List ℕ) → Filled s (replicate 64 0) (replicate 64 0) (replicate 64 zero64) (λ k. Cell.missing)
 nothing-filled s = record {
-  word-is = λ k h. getD-replicate {A = ℕ} 50 k 0 0 (omega arith);
-  figure-is = λ k h. getD-replicate 50 k zero64 nan (omega arith);
-  kept = λ k h. rw (getD-replicate {A = ℕ} 50 k 0 0 (omega arith)) Kept.nowhere;
+  word-is = λ k h. getD-replicate {A = ℕ} 64 k 0 0 (omega arith);
+  figure-is = λ k h. getD-replicate 64 k zero64 nan (omega arith);
+  kept = λ k h. rw (getD-replicate {A = ℕ} 64 k 0 0 (omega arith)) Kept.nowhere;
 }
 
-pub built-blank : (s : List ℕ) → builtOf s (replicate 50 0) (replicate 50 0) (replicate 50 zero64) 0 ≡ blank
-built-blank s = built-is s (replicate 50 0) (replicate 50 0) (replicate 50 zero64) (λ k. Cell.missing) (nothing-filled s) 0
+pub built-blank : (s : List ℕ) → builtOf s (replicate 64 0) (replicate 64 0) (replicate 64 zero64) 0 ≡ blank
+built-blank s = built-is s (replicate 64 0) (replicate 64 0) (replicate 64 zero64) (λ k. Cell.missing) (nothing-filled s) 0

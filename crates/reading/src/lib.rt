@@ -1,18 +1,15 @@
 // One payload, read: the walk and the places of its values, then its command, its fields and its record.
 use element::Step;
 use frame::Framed;
-use message::Message;
+use grades::FieldList;
 use message::Told;
+use records::Form;
 ghost use mathlib.Core.Path.{_≡_};
-ghost use Prim.Native.Nat.{_+_, _-_, _*_, _/_, _<_, max};
-ghost use lib.ListN.{getD};
-ghost use Rattle.message.specs.Fields.{fieldsOf};
-ghost use Rattle.message.specs.Record.{blank};
-ghost use Rattle.message.specs.Reading.{readingBy};
-ghost use Rattle.message.specs.Meant.{Meant, refusedAt, toldOf};
-ghost use Rattle.message.specs.Cells.{cellsAt, readingAt};
+ghost use Prim.Native.Nat.{_-_, _/_, max};
+ghost use Rattle.field.specs.Cell.{zero64};
+ghost use Rattle.message.specs.Meant.{Meant, refusedAt};
 ghost use Rattle.reading.specs.Framed.{MeantFramed};
-ghost use Rattle.reading.specs.Crossing.{crossedBy};
+ghost use Rattle.reading.specs.Ways.{crossedBy, listedBy, refused, namedBy, begunBy, keptBy, formBy, answered};
 
 // What was read at the start of an input, and how many bytes of it: a frame's, or 0 where there is no whole frame.
 pub struct Unframed {
@@ -20,23 +17,24 @@ pub struct Unframed {
     pub told: Told,
 }
 
+// How a payload stands before its fields: refused with a place, or a whole form of so many elements with a command that we know.
+struct Begun {
+    known: bool,
+    refusal: u8,
+    place: usize,
+    count: usize,
+    command: u8,
+}
+
 // A payload: any bytes, also none.
 pub fn read(s: &[u8]) -> Told
     ensures { λ r. ⌜ Meant (now (s .entry)) r ⌝ }
 {
     let noted = notes::outer(s);
-    let places = noted.places;
     let step = noted.step;
-    match step {
-        Step::Broken { number, place } => refuse(number, place),
-        Step::Next { at, count } => {
-            if at < s.len() {
-                refuse(10, at)
-            } else {
-                whole(s, &places, count)
-            }
-        }
-    }
+    let places = noted.places;
+    let begun = begun_at(s, step, wide(places[0]));
+    answer(s, &places, begun)
 }
 
 // A frame at the start of the bytes that arrived.
@@ -46,7 +44,7 @@ pub fn read_framed(s: &[u8]) -> Unframed
     match frame::read(s) {
         Framed::Refused(number) => Unframed {
             used: 0,
-            told: refuse(number, 0),
+            told: refuse(number),
         },
         Framed::Whole(size) => Unframed {
             used: 12 + size,
@@ -55,43 +53,134 @@ pub fn read_framed(s: &[u8]) -> Unframed
     }
 }
 
-// A payload whose form is whole: its command, then its fields.
-fn whole(s: &[u8], places: &[u16; 50], count: usize) -> Told
-    ensures { λ r. ⌜ r ≡ toldOf count (readingAt (now (s .entry)) (now (places .entry))) ⌝ }
-{
-    let command = notes::command_at(s, wide(places[0]));
-    if command < 21 {
-        return fields(s, places, command as u8, count);
-    }
-    if command == 21 {
-        return refuse(12, 0);
-    }
-    refuse(11, 0)
-}
-
 fn wide(place: u16) -> usize
     ensures { λ r. ⌜ r ≡ place ⌝ }
 {
     place as usize
 }
 
-// The fields of a command.
-fn fields(s: &[u8], places: &[u16; 50], command: u8, count: usize) -> Told
-    ensures { λ r. ⌜ r ≡ toldOf count (readingBy command (fieldsOf command) (cellsAt (fieldsOf command) (now (s .entry)) (now (places .entry)))) ⌝ }
+// By the walk's answer, and the place of the command's text.
+fn begun_at(s: &[u8], step: Step, command: usize) -> Begun
+    ensures { λ r. ⌜ r ≡ begunBy (now (s .entry)) command step ⌝ }
 {
-    let graded = grades::grade(s, places, grades::list_of(command));
-    let own = graded.own;
-    let words = graded.words;
-    let figures = graded.figures;
-    let worst = graver(graded.grade, crossed(words[46], words[45]));
-    if 0 < worst {
-        return refuse(number_of(worst), 0);
+    match step {
+        Step::Broken { number, place } => refused(number, place),
+        Step::Next { at, count } => {
+            if at < s.len() {
+                return refused(10, at);
+            }
+            named(notes::command_at(s, command), count)
+        }
     }
-    Told {
-        refusal: 0,
-        place: 0,
-        count: count,
-        message: records::build(s, command, &own, &words, &figures),
+}
+
+// 12: not among the 21. 11: no one text.
+fn named(command: usize, count: usize) -> Begun
+    ensures { λ r. ⌜ r ≡ namedBy command count ⌝ }
+{
+    if command < 21 {
+        return Begun {
+            known: true,
+            refusal: 0,
+            place: 0,
+            count: count,
+            command: command as u8,
+        };
+    }
+    if command == 21 {
+        return refused(12, 0);
+    }
+    refused(11, 0)
+}
+
+fn refused(number: u8, place: usize) -> Begun
+    ensures { λ r. ⌜ r ≡ refused number place ⌝ }
+{
+    Begun {
+        known: false,
+        refusal: number,
+        place: place,
+        count: 0,
+        command: 0,
+    }
+}
+
+// What is told of a payload that stands so: zeros where it is refused, now or by its fields. All answers are built in one place.
+fn answer(s: &[u8], places: &[u16; 64], begun: Begun) -> Told
+    ensures { λ r. ⌜ r ≡ answered (now (s .entry)) (now (places .entry)) begun ⌝ }
+{
+    let mut own = [0u16; 64];
+    let mut words = [0u64; 64];
+    let mut figures = [0.0f64; 64];
+    let list = listed(begun.known, begun.command);
+    let grade = grades::grade(s, places, list, &mut own, &mut words, &mut figures);
+    let worst = graver(grade, crossed(words[46], words[45]));
+    clear(
+        begun.known & (worst == 0),
+        &mut own,
+        &mut words,
+        &mut figures,
+    );
+    records::build(s, form_of(begun, worst), &own, &words, &figures)
+}
+
+// A payload that is refused leaves no value.
+fn clear(good: bool, own: &mut [u16; 64], words: &mut [u64; 64], figures: &mut [f64; 64])
+    ensures own { λ _. ⌜ now (own .exit) ≡ keptBy good (now (own .entry)) 0 ⌝ }
+    ensures words { λ _. ⌜ now (words .exit) ≡ keptBy good (now (words .entry)) 0 ⌝ }
+    ensures figures { λ _. ⌜ now (figures .exit) ≡ keptBy good (now (figures .entry)) zero64 ⌝ }
+{
+    if good {
+        return;
+    }
+    *own = [0u16; 64];
+    *words = [0u64; 64];
+    *figures = [0.0f64; 64];
+}
+
+// What is told beside the fields, by their gravest fault: 13, 14 or 15 have no place.
+fn form_of(begun: Begun, worst: u16) -> Form
+    ensures { λ r. ⌜ r ≡ formBy begun worst ⌝ }
+{
+    if !begun.known {
+        return form(begun.refusal, begun.place, 0, 0);
+    }
+    if worst == 0 {
+        return form(0, 0, begun.count, begun.command);
+    }
+    form(number_of(worst), 0, 0, 0)
+}
+
+fn form(refusal: u8, place: usize, count: usize, command: u8) -> Form
+    ensures { λ r. ⌜ r ≡ record { refusal = refusal; place = place; count = count; command = command } ⌝ }
+{
+    Form {
+        refusal,
+        place,
+        count,
+        command,
+    }
+}
+
+// A frame that is refused.
+fn refuse(number: u8) -> Told
+    ensures { λ r. ⌜ r ≡ refusedAt number 0 ⌝ }
+{
+    let bytes = [0u8; 1];
+    let places = [0u16; 64];
+    answer(&bytes, &places, refused(number, 0))
+}
+
+// The command's fields; none where the payload is refused already.
+fn listed(known: bool, command: u8) -> FieldList
+    ensures { λ r. ⌜ r ≡ listedBy known command ⌝ }
+{
+    if known {
+        return grades::list_of(command);
+    }
+    FieldList {
+        len: 0,
+        codes: [0u16; 17],
     }
 }
 
@@ -118,27 +207,4 @@ fn number_of(worst: u16) -> u8
 {
     let rank = worst / 64;
     if rank < 16 { 16 - (rank as u8) } else { 0 }
-}
-
-// A refusal with its place, and zeros besides.
-fn refuse(number: u8, place: usize) -> Told
-    ensures { λ r. ⌜ r ≡ refusedAt number place ⌝ }
-{
-    Told {
-        refusal: number,
-        place: place,
-        count: 0,
-        message: blank(),
-    }
-}
-
-// A record of zeros: that of no field.
-fn blank() -> Message
-    ensures { λ r. ⌜ r ≡ blank ⌝ }
-{
-    let bytes = [0u8; 1];
-    let own = [0u16; 50];
-    let words = [0u64; 50];
-    let figures = [0.0f64; 50];
-    records::build(&bytes, 0, &own, &words, &figures)
 }

@@ -1,10 +1,12 @@
--- No second record meets the statement of `build`, since it is an equation. Assumes nothing.
+-- No second answer meets the statement of `build`, since it is an equation. Assumes nothing.
 use mathlib.Core.Path.{_≡_, sym, _∙_}
 use mathlib.Core.List.{List}
 use Prim.Native.Nat.{ℕ}
 use lib.Ieee.{Float}
-use Rattle.message.specs.declared.Message.{Message}
-use Rattle.records.specs.Built.{builtOf}
+use Rattle.message.specs.declared.Told.{Told}
+use Rattle.records.specs.declared.Form.{Form}
+use Rattle.records.specs.Built.{toldBy}
 
-pub build-settled : (s own words : List ℕ) (figures : List Float) (c : ℕ) (r q : Message) → r ≡ builtOf s own words figures c → q ≡ builtOf s own words figures c → r ≡ q
-build-settled s own words figures c r q e f = e ∙ sym f
+module _ (s own words : List ℕ) (figures : List Float) (f : Form) where
+  pub build-settled : (r q : Told) → r ≡ toldBy s own words figures f → q ≡ toldBy s own words figures f → r ≡ q
+  build-settled r q e f = e ∙ sym f

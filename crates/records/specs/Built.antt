@@ -19,6 +19,8 @@ use Rattle.message.specs.declared.MaybePosition.{MaybePosition}
 use Rattle.message.specs.declared.MaybeVersion.{MaybeVersion}
 use Rattle.message.specs.declared.Signal.{Signal}
 use Rattle.message.specs.declared.Message.{Message}
+use Rattle.message.specs.declared.Told.{Told}
+use Rattle.records.specs.declared.Form.{Form}
 
 -- the lowest bits of a word as a signed number
 unfoldable pub signedOf : ℕ → ℕ → ℤ
@@ -108,3 +110,7 @@ module _ (s own words : List ℕ) (figures : List Float) where
     «response_exp» = markAt 46;
     «dl_ack» = markAt 47;
   }
+
+  -- the answer, with what is told beside the fields
+  abbrev pub toldBy : Form → Told
+  toldBy f = record { refusal = f .refusal; place = f .place; count = f .count; message = builtOf (f .command) }

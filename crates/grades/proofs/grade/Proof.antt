@@ -1,88 +1,95 @@
--- `grade` meets its contract. The invariant: the answer from this place of the list on is the answer, and the arrays have fifty places each.
--- The measure is what is left of the list. Assumes nothing.
 use borrow.Author.Needs.{needs}
 use Prim.Native.Nat.{_-_}
-use Rattle.grades.proofs.Turns.{Going, turn, turn-past, turns}
+use Rattle.grades.specs.Graded.{Graded}
+use Rattle.grades.proofs.Turns.{Going, turn, turns}
+use native.Mathlib.Omega.{arith}
 use Rattle.grades.proofs.grade.Statement.{statement}
 use Rattle.grades.proofs.grade.Tie as tie
+use Rattle.grades.proofs.grade.Reads as reads
+use Rattle.grades.proofs.grade.Lts as lts
+use Rattle.grades.proofs.cell.held_by.Reads as held-by-reads
+use Rattle.grades.proofs.cell.wide.Reads as wide-reads
+use Rattle.grades.proofs.few.Reads as few-reads
+use Rattle.grades.proofs.grade_of.Reads as grade-of-reads
+use Rattle.grades.proofs.graver.Reads as graver-reads
 
 abbrev Inv-loop : tie.InvT-loop
-Inv-loop s places codes end worst₀ own₀ words₀ figures₀ i₀ worst own words figures i = Going s places codes end i worst own words figures
+Inv-loop s places own₀ words₀ figures₀ codes end worst₀ i₀ own words figures worst i = Going s places codes (record { grade = 0; own = own₀; words = words₀; figures = figures₀ }) end i worst own words figures
 
 abbrev μ-loop : tie.MeasureT-loop
-μ-loop s places codes end worst₀ own₀ words₀ figures₀ i₀ worst own words figures i = end - i
+μ-loop s places own₀ words₀ figures₀ codes end worst₀ i₀ own words figures worst i = end - i
 
+-- src/lib.rt:104:9
 few-requires : tie.Need-few-requires Inv-loop μ-loop
 few-requires c κs = search needs
 
+-- src/lib.rt:107:5
 loop-holds : tie.Need-loop-holds Inv-loop μ-loop
 loop-holds c = search (turns, needs)
 
+-- src/lib.rt:108:20
 mul-code : tie.Need-mul-code Inv-loop μ-loop
 mul-code c = search needs
 
+-- src/lib.rt:108:20
 array-read-code : tie.Need-array-read-code Inv-loop μ-loop
 array-read-code c = search needs
 
+-- src/lib.rt:109:13
 wide-requires : tie.Need-wide-requires Inv-loop μ-loop
 wide-requires c κs = search needs
 
+-- src/lib.rt:110:13
 held-by-requires : tie.Need-held-by-requires Inv-loop μ-loop
 held-by-requires c κs = search needs
 
+-- src/lib.rt:111:31
 grade-of-requires : tie.Need-grade-of-requires Inv-loop μ-loop
 grade-of-requires c κs = search needs
 
+-- src/lib.rt:111:9
 graver-requires : tie.Need-graver-requires Inv-loop μ-loop
 graver-requires c κs = search needs
 
-add-i : tie.Need-add-i Inv-loop μ-loop
-add-i c = search needs
-
+-- src/lib.rt:112:9
 mul-own : tie.Need-mul-own Inv-loop μ-loop
 mul-own c = search needs
 
-array-write-own : tie.Need-array-write-own Inv-loop μ-loop
-array-write-own c = search needs
+-- src/lib.rt:112:9
+element-write-own : tie.Need-element-write-own Inv-loop μ-loop
+element-write-own c = search needs
 
+-- src/lib.rt:113:9
 mul-words : tie.Need-mul-words Inv-loop μ-loop
 mul-words c = search needs
 
-array-write-words : tie.Need-array-write-words Inv-loop μ-loop
-array-write-words c = search needs
+-- src/lib.rt:113:9
+element-write-words : tie.Need-element-write-words Inv-loop μ-loop
+element-write-words c = search needs
 
+-- src/lib.rt:114:9
 mul-figures : tie.Need-mul-figures Inv-loop μ-loop
 mul-figures c = search needs
 
-array-write-figures : tie.Need-array-write-figures Inv-loop μ-loop
-array-write-figures c = search needs
+-- src/lib.rt:114:9
+element-write-figures : tie.Need-element-write-figures Inv-loop μ-loop
+element-write-figures c = search needs
 
+-- src/lib.rt:115:9
+add-i : tie.Need-add-i Inv-loop μ-loop
+add-i c = search needs
+
+-- src/lib.rt:107:5
 loop-less : tie.Need-loop-less Inv-loop μ-loop
 loop-less c = search needs
 
+-- src/lib.rt:107:5
 loop-again : tie.Need-loop-again Inv-loop μ-loop
-loop-again c =
-    let g = c .before .before in
-    let h = g .before in
-    let w = h .before .before in
-    let l = w .before in
-    turn (l .loop-test .taken) (w .wide .ensures) (h .held-by .ensures)
-    (g .grade-of .ensures) (c .before .graver .ensures) (l .before .loop .inv)
+loop-again c = search (turns, needs)
 
-loop-less-2 : tie.Need-loop-less-2 Inv-loop μ-loop
-loop-less-2 c = search needs
-
-loop-again-2 : tie.Need-loop-again-2 Inv-loop μ-loop
-loop-again-2 c =
-    let g = c .before .before in
-    let h = g .before in
-    let w = h .before .before in
-    let l = w .before in
-    turn-past (l .loop-test .taken) (w .wide .ensures) (h .held-by .ensures)
-    (g .grade-of .ensures) (c .before .graver .ensures) (l .before .loop .inv) (c .if1 .left)
-
+-- src/lib.rt:93:1
 returns : tie.Need-returns Inv-loop μ-loop
-returns c = search turns
+returns c = search (turns, needs)
 
 pub grade-spec : {M : Type 1} → statement M
 grade-spec =
@@ -98,15 +105,13 @@ grade-spec =
     held-by-requires
     grade-of-requires
     graver-requires
-    add-i
     mul-own
-    array-write-own
+    element-write-own
     mul-words
-    array-write-words
+    element-write-words
     mul-figures
-    array-write-figures
+    element-write-figures
+    add-i
     loop-less
     loop-again
-    loop-less-2
-    loop-again-2
     returns)
