@@ -5,9 +5,12 @@ use mathlib.Core.Bool.{Bool, true, false}
 use mathlib.Core.List.{List, [], _∷_}
 use mathlib.Core.Option.{Option, some, none}
 use Prim.Native.Nat.{ℕ, zero, suc, _+_, _-_, _≤_, _<_}
+use native.Mathlib.Nat.{zero-add}
 use native.Mathlib.Omega.{arith}
 use lib.ListN.{length, getD}
 use Rattle.octets.specs.Choice.{either}
+use Rattle.octets.specs.Number.{bigAt, isThere, ifThere}
+use Rattle.octets.proofs.Reading.{inside}
 use Rattle.element.specs.declared.Shape.{Shape}
 use Rattle.element.specs.declared.Shape.the-variants.{Never, Plain, Text, Array, Map}
 use Rattle.element.specs.declared.Span.the-variants.{Holds}
@@ -16,7 +19,8 @@ use Rattle.element.specs.Form.{spanOf}
 use Rattle.element.specs.Meaning.{Elements, leafOf}
 use Rattle.element.specs.At.{leafAt}
 use Rattle.number.specs.Number.{numberOf}
-use Rattle.walk.proofs.Leads.{says-fixarray}
+use Rattle.walk.proofs.Leads.{row, says-fixarray, says-array}
+use Rattle.walk.proofs.Elements.{length-fits}
 use Rattle.field.specs.declared.Judged.{Judged}
 use Rattle.field.specs.declared.Opened.{Opened}
 use Rattle.field.specs.declared.Part.{Part}
@@ -29,7 +33,7 @@ use Rattle.field.specs.Read.{badly, well, tellOf, readAt, sizedOf}
 use Rattle.field.specs.Part.{openedAt, isArray, nowhere, partsBy, Lists}
 use Rattle.field.specs.Item.{octetBy, octetAt, isSome, octetsFrom}
 use Rattle.field.proofs.Shallow.{by-shallow, shallow-past, leaf-all}
-use Rattle.field.proofs.Heads.{span-bare}
+use Rattle.field.proofs.Heads.{open-is, span-bare}
 use Rattle.field.proofs.Views.{seen, seen-there}
 use Rattle.field.proofs.Texts.{sized-few, sized-many, sized-in, sized-told}
 
@@ -82,7 +86,15 @@ module _ (s : List ℕ) (at : ℕ) where
         within = omega arith;
       }
 
-pub ruleset lists = (array-there, array-not, array-past, array-fix, arith)
+-- a longer one, by the two bytes of its length
+pub array-two : (s : List ℕ) (at n : ℕ) (t : Bool) → at < length s → getD s at 0 ≡ 0xDC → t ≡ isThere (length s) (at + 1) 2 → t ≡ true → n ≡ ifThere s (at + 1) 2 (bigAt s (at + 1) 2) → Lists s at (record { there = true; from = at + 3; size = n })
+array-two s at n t there b e u q =
+    let few : at + 1 + 2 ≤ length s = inside (length s) (at + 1) 2 t e u in
+    let a : at + 1 + 2 ≡ at + 3 = omega arith in
+    let o = open-is s at (row Array 2 0) there (says-array (getD s at 0) 2 (rw b) (omega arith) (omega arith)) n (omega arith) q in
+    rw (a, zero-add n) at (array-there s at (record { shape = Array; from = at + 1 + 2; size = 0 + n }) o few true refl refl)
+
+pub ruleset lists = (array-there, array-not, array-past, array-fix, array-two, length-fits, arith)
 
 -- the bytes of the parts, with one part more in front
 abbrev pub more : Octet → (ℕ → Option (List ℕ)) → Option (List ℕ)

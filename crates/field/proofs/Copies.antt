@@ -5,9 +5,8 @@ use mathlib.Core.Bool.{Bool, true, false}
 use mathlib.Core.List.{List, [], _∷_}
 use mathlib.Core.Option.{Option, some, none}
 use Prim.Native.Nat.{ℕ, suc, _+_, _-_, _≤_, _<_}
-use native.Mathlib.Nat.{sub-zero}
 use native.Mathlib.Omega.{arith}
-use lib.ListN.{length, set}
+use lib.ListN.{length, set, length-set}
 use borrow.Author.Tests.{le-leb, lt-leb}
 use Rattle.octets.specs.Bytes.{putAt}
 use Rattle.octets.proofs.Ranges.{true-false}
@@ -41,39 +40,40 @@ module _ (s : List ℕ) (k next i v : ℕ) (out : List ℕ) (room : i + suc k �
       go none e u = true-false (sym u)
       go (some bs) e u = put-cons out i v bs (omega (arith, length-octets s k next bs e))
 
-module _ (s : List ℕ) (n from : ℕ) (room : List ℕ) where
-  pub copy-start : copied s (n - 0) from 0 room ≡ copied s n from 0 room
-  copy-start = rw sub-zero
+-- the room that is to be, while i of n bytes are put and the part at q is the next
+module _ (s : List ℕ) (n : ℕ) (whole out : List ℕ) (q i : ℕ) where
+  pub copy-done : n ≤ i → copied s (n - i) q i out ≡ whole → out ≡ whole
+  copy-done h e =
+      let z : n - i ≡ 0 = omega arith in
+      sym (ap (λ (k : ℕ). copied s k q i out) z ∙ copy-none s q i out) ∙ e
 
-  pub some-start : isSome (octetsFrom s n from) ≡ true → isSome (octetsFrom s (n - 0) from) ≡ true
-  some-start e = rw sub-zero e
+  module _ (x : Octet) (h : i < n) (e : x ≡ octetAt s q) (all : isSome (octetsFrom s (n - i) q) ≡ true) where
+    pub copy-unfit : x ≡ Unfit → out ≡ whole
+    copy-unfit y = true-false (sym (all-none s (n - i) q x (omega arith) e true y all))
 
-  module _ (out : List ℕ) (q i : ℕ) where
-    pub copy-done : n ≤ i → copied s (n - i) q i out ≡ copied s n from 0 room → out ≡ copied s n from 0 room
-    copy-done h e =
-        let z : n - i ≡ 0 = omega arith in
-        sym (ap (λ (k : ℕ). copied s k q i out) z ∙ copy-none s q i out) ∙ e
+    module _ (v next : ℕ) (y : x ≡ Byte v next) where
+      pub some-more : isSome (octetsFrom s (n - (i + 1)) next) ≡ true
+      some-more =
+          let z : n - i - 1 ≡ n - (i + 1) = omega arith in
+          rw z at (all-more s (n - i) q x (omega arith) e v next true y all)
 
-    module _ (x : Octet) (h : i < n) (e : x ≡ octetAt s q) (all : isSome (octetsFrom s (n - i) q) ≡ true) where
-      pub copy-unfit : x ≡ Unfit → out ≡ copied s n from 0 room
-      copy-unfit y = true-false (sym (all-none s (n - i) q x (omega arith) e true y all))
+      pub copy-more : n ≤ length out → copied s (n - i) q i out ≡ whole → copied s (n - (i + 1)) next (i + 1) (set out i v) ≡ whole
+      unfolding copied
+      copy-more l g =
+          let z : n - i - 1 ≡ n - (i + 1) = omega arith in
+          copy-next s (n - (i + 1)) next i v out (omega arith) some-more
+          ∙ ap (λ (j : ℕ). putIf (more (Byte v next) (octetsFrom s j)) i out) (sym z)
+          ∙ sym (ap (λ (o : Option (List ℕ)). putIf o i out) (step s (n - i) q x (omega arith) e ∙ ap (λ (w : Octet). more w (octetsFrom s (n - i - 1))) y))
+          ∙ g
 
-      module _ (v next : ℕ) (y : x ≡ Byte v next) where
-        pub some-more : isSome (octetsFrom s (n - (i + 1)) next) ≡ true
-        some-more =
-            let z : n - i - 1 ≡ n - (i + 1) = omega arith in
-            rw z at (all-more s (n - i) q x (omega arith) e v next true y all)
+pub roomy : (n : ℕ) (out : List ℕ) (i v : ℕ) → n ≤ length out → n ≤ length (set out i v)
+roomy n out i v h = rw length-set h
 
-        pub copy-more : n ≤ length room → length out ≡ length room → copied s (n - i) q i out ≡ copied s n from 0 room → copied s (n - (i + 1)) next (i + 1) (set out i v) ≡ copied s n from 0 room
-        unfolding copied
-        copy-more l k g =
-            let z : n - i - 1 ≡ n - (i + 1) = omega arith in
-            copy-next s (n - (i + 1)) next i v out (omega arith) some-more
-            ∙ ap (λ (j : ℕ). putIf (more (Byte v next) (octetsFrom s j)) i out) (sym z)
-            ∙ sym (ap (λ (o : Option (List ℕ)). putIf o i out) (step s (n - i) q x (omega arith) e ∙ ap (λ (w : Octet). more w (octetsFrom s (n - i - 1))) y))
-            ∙ g
+-- behind a run, the room that is to be is still the same
+pub copy-end : (s : List ℕ) (n : ℕ) (whole out mid : List ℕ) (q i p j : ℕ) → n ≤ i → copied s (n - i) q i out ≡ copied s (n - j) p j mid → copied s (n - j) p j mid ≡ whole → out ≡ whole
+copy-end s n whole out mid q i p j h e g = copy-done s n whole out q i h (e ∙ g)
 
-pub ruleset copies = (kept, copy-start, some-start, copy-done, copy-unfit, some-more, copy-more, arith)
+pub ruleset copies = (kept, roomy, copy-end, copy-unfit, some-more, copy-more, arith)
 
 -- the room that is left
 module _ (s : List ℕ) (n from : ℕ) (room : List ℕ) where

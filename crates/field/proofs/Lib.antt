@@ -7,6 +7,7 @@ pub mod Texts
 pub mod Octets
 pub mod Arrays
 pub mod Copies
+pub mod Runs
 pub mod Strings
 pub mod Places
 pub mod Feeding

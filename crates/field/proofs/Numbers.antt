@@ -1,14 +1,13 @@
 -- Numbers under a kind: each law in the shape of a need of the code. A whole below 0 is -1 - k, and its 64 bits are those of k turned.
 -- Assumes nothing.
 use mathlib.Core.Path.{_≡_, refl, sym, ap, _∙_}
-use mathlib.Core.Bool.{true, false}
+use mathlib.Core.Bool.{Bool, true, false}
 use mathlib.Core.List.{List}
-use mathlib.Core.Option.{some}
-use Prim.Native.Nat.{ℕ, suc, _-_, _^_, _≤_, _<_}
+use Prim.Native.Nat.{ℕ, suc, _+_, _-_, _/_, _%_, _^_, _≤_, _<_}
 use native.Mathlib.Omega.{arith}
 use lib.Dec.{T}
 use lib.IntN.{ℤ, pos, negsuc, natAbs, _-ℤ_}
-use lib.Ieee.{Float}
+use lib.Ieee.{Float, binary64, ofBits, top, hid, ones}
 use lib.ListN.{length, getD}
 use lib.Signed.{ltZ, mag, nonNeg}
 use mir.Syntax.{w64}
@@ -18,14 +17,17 @@ use borrow.Author.Tests.{le-leb, lt-leb, le-ltb, ltb-true}
 use Rattle.element.specs.At.{leafAt}
 use Rattle.number.specs.declared.Number.{Number}
 use Rattle.number.specs.declared.Number.the-variants.{Signed, Unsigned, Real, Not}
-use Rattle.number.specs.Number.{numberOf}
-use Rattle.number.proofs.Reading.{past, small-is, byte-wide}
+use Rattle.number.specs.Number.{numberOf, realBy}
+use Rattle.number.specs.Body.{given}
+use Rattle.number.proofs.Bodies.{given-is, real-none, real-is, no-nan}
+use Rattle.number.proofs.Reading.{past, small-is, unsigned-is, double-is, byte-wide}
+use Rattle.octets.specs.Number.{bigAt, isThere, ifThere}
 use Rattle.octets.proofs.Ranges.{true-false}
 use Rattle.field.specs.declared.Judged.{Judged}
-use Rattle.field.specs.Kind.{Kind, Value}
-use Rattle.field.specs.Judge.{wholeIn, realIn, onSome, judge}
+use Rattle.field.specs.Kind.{Kind}
+use Rattle.field.specs.Judge.{wholeIn, judge}
 use Rattle.field.specs.At.{shallowAt}
-use Rattle.field.specs.Read.{badly, well, tellOf, readAt}
+use Rattle.field.specs.Read.{badly, well, tellOf, readAt, realValueIn}
 use Rattle.field.proofs.Shallow.{leaf-view}
 
 -- the number at a place is the leaf's
@@ -138,40 +140,93 @@ module _ (r : Judged) (lo hi : ℕ) (x : Number) where
 
 pub ruleset wholes = (turn-fits, turn-sign, turn-width, plain-sign, plain-width, whole-below, whole-above, whole-unsigned, whole-real, whole-not)
 
-module _ (s : List ℕ) (at : ℕ) (x : Number) (e : x ≡ numberOf (leafAt s at)) where
+-- a number, where its bytes are there
+module _ (r : Judged) (there : Bool) (n : ℕ) where
+  pub given-upto : (hi : ℕ) → there ≡ true → r ≡ tellOf (wholeIn 0 hi (Unsigned n)) → r ≡ tellOf (wholeIn 0 hi (given there (Unsigned n)))
+  unfolding given
+  given-upto hi t q = rw t q
+
+  pub given-no-whole : (hi : ℕ) → there ≡ false → r ≡ badly → r ≡ tellOf (wholeIn 0 hi (given there (Unsigned n)))
+  unfolding given tellOf
+  given-no-whole hi t q = rw t q
+
+  pub given-no-real : there ≡ false → r ≡ badly → r ≡ tellOf (realValueIn (given there (realBy binary64 n)))
+  unfolding given tellOf
+  given-no-real t q = rw t q
+
+  by-given : (x : Number) → there ≡ true → x ≡ realBy binary64 n → tellOf (realValueIn x) ≡ tellOf (realValueIn (given there (realBy binary64 n)))
+  by-given x t e = ap (λ (y : Number). tellOf (realValueIn y)) (given-is there x (realBy binary64 n) t e)
+
+  pub given-infinite : there ≡ true → n % top binary64 / hid binary64 ≡ ones binary64 → r ≡ badly → r ≡ tellOf (realValueIn (given there (realBy binary64 n)))
+  unfolding tellOf
+  given-infinite t e q = q ∙ by-given Not t (real-none binary64 n e)
+
+pub given-figure : (there : Bool) (n : ℕ) → there ≡ true → (n % top binary64 / hid binary64 ≡ ones binary64 → ⊥)
+    → record { state = 0; word = 0; figure = ofBits binary64 n } ≡ tellOf (realValueIn (given there (realBy binary64 n)))
+unfolding tellOf
+given-figure there n t e = by-given badly there n (Real (ofBits binary64 n)) t (real-is binary64 n e)
+
+pub ruleset givens = (given-upto, given-no-whole, given-no-real, given-infinite, given-figure, no-nan)
+
+-- a finite real, by the number's variant
+module _ (x : Number) where
+  pub figure-is : (f : Float) → x ≡ Real f → record { state = 0; word = 0; figure = f } ≡ tellOf (realValueIn x)
+  unfolding tellOf
+  figure-is f e = sym (rw e)
+
+  module _ (r : Judged) (q : r ≡ badly) where
+    pub figure-signed : (z : ℤ) → x ≡ Signed z → r ≡ tellOf (realValueIn x)
+    unfolding tellOf
+    figure-signed z e = q ∙ sym (rw e)
+
+    pub figure-unsigned : (n : ℕ) → x ≡ Unsigned n → r ≡ tellOf (realValueIn x)
+    unfolding tellOf
+    figure-unsigned n e = q ∙ sym (rw e)
+
+    pub figure-not : x ≡ Not → r ≡ tellOf (realValueIn x)
+    unfolding tellOf
+    figure-not e = q ∙ sym (rw e)
+
+pub ruleset figures = (figure-is, figure-signed, figure-unsigned, figure-not)
+
+-- the element at a place, by the number there
+module _ (s : List ℕ) (at : ℕ) (x : Number) (e : x ≡ numberOf (leafAt s at)) (r : Judged) where
   found : x ≡ numberOf (shallowAt s at)
   found = e ∙ sym (number-there s at)
 
-  pub whole-is : (r : Judged) (lo hi : ℕ) → r ≡ tellOf (wholeIn lo hi x) → r ≡ readAt (Kind.wholes lo hi) s at
+  pub whole-is : (lo hi : ℕ) → r ≡ tellOf (wholeIn lo hi x) → r ≡ readAt (Kind.wholes lo hi) s at
   unfolding readAt judge
-  whole-is r lo hi q = q ∙ ap (λ (y : Number). tellOf (wholeIn lo hi y)) found
+  whole-is lo hi q = q ∙ ap (λ (y : Number). tellOf (wholeIn lo hi y)) found
 
-  by-real : (y : Number) → x ≡ y → tellOf (onSome (realIn y) (λ f. some (Value.figure f))) ≡ readAt Kind.reals s at
+  pub real-at-is : r ≡ tellOf (realValueIn x) → r ≡ readAt Kind.reals s at
   unfolding readAt judge
-  by-real y q = ap (λ (z : Number). tellOf (onSome (realIn z) (λ f. some (Value.figure f)))) (sym q ∙ found)
+  real-at-is q = q ∙ ap (λ (y : Number). tellOf (realValueIn y)) found
 
-  pub real-is : (f : Float) → x ≡ Real f → record { state = 0; word = 0; figure = f } ≡ readAt Kind.reals s at
-  unfolding tellOf
-  real-is f q = by-real (Real f) q
+-- by its lead byte
+module _ (s : List ℕ) (at : ℕ) (r : Judged) where
+  module _ (lo hi : ℕ) where
+    pub whole-past : length s ≤ at → r ≡ badly → r ≡ readAt (Kind.wholes lo hi) s at
+    unfolding tellOf
+    whole-past h q = whole-is s at Not (past s at h) r lo hi q
 
-  pub real-signed : (r : Judged) (z : ℤ) → x ≡ Signed z → r ≡ badly → r ≡ readAt Kind.reals s at
-  unfolding tellOf
-  real-signed r z q b = b ∙ by-real (Signed z) q
+    pub whole-small : at < length s → getD s at 0 < 0x80 → r ≡ tellOf (wholeIn 0 hi (Unsigned (getD s at 0))) → r ≡ readAt (Kind.wholes lo hi) s at
+    whole-small there h q = whole-is s at (Unsigned (getD s at 0)) (small-is s at there h) r lo hi q
 
-  pub real-unsigned : (r : Judged) (n : ℕ) → x ≡ Unsigned n → r ≡ badly → r ≡ readAt Kind.reals s at
-  unfolding tellOf
-  real-unsigned r n q b = b ∙ by-real (Unsigned n) q
+  pub real-wide : (t : Bool) (n : ℕ) → at < length s → getD s at 0 ≡ 0xCB → t ≡ isThere (length s) (at + 1) 8
+      → n ≡ ifThere s (at + 1) 8 (bigAt s (at + 1) 8) → r ≡ tellOf (realValueIn (given t (realBy binary64 n))) → r ≡ readAt Kind.reals s at
+  real-wide t n there b e f q =
+      real-at-is s at (given t (realBy binary64 n)) (double-is s at (given t (realBy binary64 n)) t n there b e f refl) r q
 
-  pub real-not : (r : Judged) → x ≡ Not → r ≡ badly → r ≡ readAt Kind.reals s at
-  unfolding tellOf
-  real-not r q b = b ∙ by-real Not q
+any-least : (lo hi : ℕ) (t : Bool) (n : ℕ) → wholeIn 0 hi (given t (Unsigned n)) ≡ wholeIn lo hi (given t (Unsigned n))
+unfolding given
+any-least lo hi true n = refl
+any-least lo hi false n = refl
 
-module _ (s : List ℕ) (at : ℕ) (r : Judged) (lo hi : ℕ) where
-  pub whole-past : length s ≤ at → r ≡ badly → r ≡ readAt (Kind.wholes lo hi) s at
-  unfolding tellOf
-  whole-past h q = whole-is s at Not (past s at h) r lo hi q
+-- an unsigned whole, in the k-th width
+pub whole-wide : (k : ℕ) → k < 4 → (s : List ℕ) (at : ℕ) (r : Judged) (lo hi : ℕ) (t : Bool) (n : ℕ) → at < length s → getD s at 0 ≡ 0xCC + k
+    → t ≡ isThere (length s) (at + 1) (2 ^ k) → n ≡ ifThere s (at + 1) (2 ^ k) (bigAt s (at + 1) (2 ^ k))
+    → r ≡ tellOf (wholeIn 0 hi (given t (Unsigned n))) → r ≡ readAt (Kind.wholes lo hi) s at
+whole-wide k h s at r lo hi t n there b e f q =
+    whole-is s at (given t (Unsigned n)) (unsigned-is k h s at (given t (Unsigned n)) t n there b e f refl) r lo hi (q ∙ ap tellOf (any-least lo hi t n))
 
-  pub whole-small : at < length s → getD s at 0 < 0x80 → r ≡ tellOf (wholeIn 0 hi (Unsigned (getD s at 0))) → r ≡ readAt (Kind.wholes lo hi) s at
-  whole-small there h q = whole-is s at (Unsigned (getD s at 0)) (small-is s at there h) r lo hi q
-
-pub ruleset numbers = (byte-wide, whole-past, whole-small, whole-is, real-is, real-signed, real-unsigned, real-not)
+pub ruleset numbers = (byte-wide, whole-past, whole-small, whole-is, real-at-is, real-wide, arith)

@@ -1,9 +1,10 @@
 -- For the private readers: the parts of an array behind each other. No statement of a public function rests on this page.
-use Prim.Native.Nat.{ℕ}
+use Prim.Native.Nat.{ℕ, _+_, _≤_, _<_, max}
 use mathlib.Core.Bool.{Bool, true, false}
 use mathlib.Core.List.{List}
 use mathlib.Core.Option.{Option, some, none}
 use lib.Ieee.{Float}
+use lib.ListN.{length, getD}
 use Rattle.octets.specs.Bytes.{putAt}
 use Rattle.element.specs.Form.{spanOf}
 use Rattle.element.specs.At.{leafAt}
@@ -28,6 +29,12 @@ octetAt s at = octetBy (octetIn (numberOf (leafAt s at))) (endOf at (spanOf s at
 abbrev pub isSome : {A : Type 0} → Option A → Bool
 isSome none = false
 isSome (some a) = true
+
+-- the first r of n bytes from a place on are there, and each is below 0x80: a number of one byte
+pub record LowRun (s : List ℕ) (at n r : ℕ) : Type 0 where
+  pub few : r ≤ n
+  pub within : at + r ≤ max at (length s)
+  pub low : (i : ℕ) → i < r → getD s (at + i) 0 < 0x80
 
 -- n such numbers behind each other
 unfoldable pub octetsFrom : List ℕ → ℕ → ℕ → Option (List ℕ)

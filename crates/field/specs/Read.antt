@@ -2,12 +2,13 @@
 use Prim.Native.Nat.{ℕ}
 use mathlib.Core.Bool.{_&&_}
 use mathlib.Core.List.{List}
-use mathlib.Core.Option.{Option}
+use mathlib.Core.Option.{Option, some}
 use lib.Dec.{leb}
 use Rattle.octets.specs.Choice.{either}
 use Rattle.field.specs.declared.Judged.{Judged}
 use Rattle.field.specs.Kind.{Kind, Value}
-use Rattle.field.specs.Judge.{judge}
+use Rattle.number.specs.declared.Number.{Number}
+use Rattle.field.specs.Judge.{onSome, realIn, judge}
 use Rattle.field.specs.Cell.{judged, toldOf, zero64}
 use Rattle.field.specs.At.{shallowAt}
 
@@ -30,25 +31,6 @@ readAt k s at = tellOf (judge k (shallowAt s at))
 unfoldable pub sizedOf : ℕ → ℕ → ℕ → Judged
 sizedOf lo hi n = either (leb lo n && leb n hi) (λ _. well n) (λ _. badly)
 
--- the two bounds of wholes and arrays
-abbrev pub leastOf : Kind → ℕ
-leastOf (Kind.wholes lo hi) = lo
-leastOf Kind.reals = 0
-leastOf Kind.flags = 0
-leastOf Kind.places = 0
-leastOf (Kind.arrays lo hi) = lo
-leastOf (Kind.texts lo hi) = 0
-leastOf Kind.versions = 0
-leastOf Kind.words = 0
-leastOf Kind.maps = 0
-
-abbrev pub mostOf : Kind → ℕ
-mostOf (Kind.wholes lo hi) = hi
-mostOf Kind.reals = 0
-mostOf Kind.flags = 0
-mostOf Kind.places = 0
-mostOf (Kind.arrays lo hi) = hi
-mostOf (Kind.texts lo hi) = 0
-mostOf Kind.versions = 0
-mostOf Kind.words = 0
-mostOf Kind.maps = 0
+-- a number as a finite real
+abbrev pub realValueIn : Number → Option Value
+realValueIn n = onSome (realIn n) (λ x. some (Value.figure x))

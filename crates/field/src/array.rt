@@ -10,6 +10,9 @@ use crate::whole::bad;
 use crate::whole::good;
 use number::Number;
 use number::number_at;
+use octets::big_at;
+use octets::eight_low;
+use octets::is_there;
 ghost use mathlib.Core.Path.{_≡_};
 ghost use mathlib.Core.Bool.{true};
 ghost use Prim.Native.Nat.{_≤_};
@@ -19,7 +22,7 @@ ghost use Rattle.field.specs.Judge.{onSome, sized};
 ghost use Rattle.field.specs.At.{filled};
 ghost use Rattle.field.specs.Read.{tellOf, readAt};
 ghost use Rattle.field.specs.Part.{Lists};
-ghost use Rattle.field.specs.Item.{octetAt, octetsFrom, isSome, copied};
+ghost use Rattle.field.specs.Item.{octetAt, LowRun, octetsFrom, isSome, copied};
 
 // An array of lo to hi such numbers.
 pub fn octets_at(s: &[u8], at: usize, lo: usize, hi: usize) -> Judged
@@ -80,6 +83,15 @@ pub fn array_at(s: &[u8], at: usize) -> Part
             size: (b - 0x90) as usize,
         };
     }
+    if b == 0xDC {
+        if is_there(s.len(), at + 1, 2) {
+            return Part {
+                there: true,
+                from: at + 3,
+                size: big_at(s, at + 1, 2) as usize,
+            };
+        }
+    }
     long_array(s, at)
 }
 
@@ -103,8 +115,9 @@ fn long_array(s: &[u8], at: usize) -> Part
 fn all_octets(s: &[u8], from: usize, n: usize) -> bool
     ensures { λ r. ⌜ r ≡ isSome (octetsFrom (now (s .entry)) n from) ⌝ }
 {
-    let mut q = from;
-    let mut k = n;
+    let run = low_run(s, from, n);
+    let mut q = from + run;
+    let mut k = n - run;
     while 0 < k {
         match octet_at(s, q) {
             Octet::Byte { value: _, next } => {
@@ -123,8 +136,13 @@ fn copy(s: &[u8], from: usize, n: usize, out: &mut [u8])
     requires { ⌜ (isSome (octetsFrom (now s) n from) ≡ true) × (n ≤ length (now out)) ⌝ }
     ensures { λ _. ⌜ now (out .exit) ≡ copied (now (s .entry)) n from 0 (now (out .entry)) ⌝ }
 {
-    let mut q = from;
+    let run = low_run(s, from, n);
     let mut i: usize = 0;
+    while i < run {
+        out[i] = s[from + i];
+        i += 1;
+    }
+    let mut q = from + i;
     while i < n {
         match octet_at(s, q) {
             Octet::Byte { value, next } => {
@@ -137,6 +155,21 @@ fn copy(s: &[u8], from: usize, n: usize, out: &mut [u8])
             }
         }
     }
+}
+
+// How many of n parts from a place on, by eights, are numbers of one byte. Arrays often begin with many.
+fn low_run(s: &[u8], from: usize, n: usize) -> usize
+    ensures { λ r. ⌜ LowRun (now (s .entry)) from n r ⌝ }
+{
+    let mut r: usize = 0;
+    while 8 <= n - r {
+        if eight_low(s, from + r) {
+            r += 8;
+        } else {
+            return r;
+        }
+    }
+    r
 }
 
 // The number at a place. Most are written in one byte, or in one behind CC.

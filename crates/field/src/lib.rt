@@ -82,7 +82,7 @@ enum Fed {
 }
 
 // The value of the field whose place is p: 0 where its key is missing, 1 where its key stands more than once.
-pub fn cell_at(s: &[u8], p: usize, kind: u8) -> Judged
+pub fn cell_at(s: &[u8], p: usize, kind: u16) -> Judged
     ensures { λ r. ⌜ r ≡ toldOf (cellAt (kindOf kind) (now (s .entry)) p) ⌝ }
 {
     if p == 0 {

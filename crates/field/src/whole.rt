@@ -2,11 +2,16 @@
 use crate::Judged;
 use number::Number;
 use number::number_at;
+use octets::big_at;
+use octets::is_there;
 ghost use mathlib.Core.Path.{_≡_};
+ghost use lib.Ieee.{binary64};
 ghost use lib.IntN.{negsuc};
+ghost use Rattle.number.specs.Number.{realBy};
+ghost use Rattle.number.specs.Body.{given};
 ghost use Rattle.field.specs.Kind.{Kind};
 ghost use Rattle.field.specs.Judge.{wholeIn};
-ghost use Rattle.field.specs.Read.{badly, well, tellOf, readAt};
+ghost use Rattle.field.specs.Read.{badly, well, tellOf, readAt, realValueIn};
 
 // An invalid field.
 pub fn bad() -> Judged
@@ -30,24 +35,62 @@ pub fn good(word: u64) -> Judged
     }
 }
 
-// A whole number from minus lo to hi; many are one byte.
+// A whole number from minus lo to hi. Most are one byte or unsigned, and are read here, with no call of the number reader.
 pub fn whole_at(s: &[u8], at: usize, lo: u64, hi: u64) -> Judged
     ensures { λ r. ⌜ r ≡ readAt (Kind.wholes lo hi) (now (s .entry)) at ⌝ }
 {
-    if at < s.len() {
+    let len = s.len();
+    if at < len {
         let b = s[at];
         if b < 0x80 {
             return upto(hi, b as u64);
         }
-        return whole_in(number_at(s, at), lo, hi);
+        let from = at + 1;
+        return match b {
+            0xCC => given_upto(is_there(len, from, 1), big_at(s, from, 1), hi),
+            0xCD => given_upto(is_there(len, from, 2), big_at(s, from, 2), hi),
+            0xCE => given_upto(is_there(len, from, 4), big_at(s, from, 4), hi),
+            0xCF => given_upto(is_there(len, from, 8), big_at(s, from, 8), hi),
+            _ => whole_in(number_at(s, at), lo, hi),
+        };
     }
     bad()
 }
 
+// A finite real. Most are of eight bytes.
 pub fn real_at(s: &[u8], at: usize) -> Judged
     ensures { λ r. ⌜ r ≡ readAt Kind.reals (now (s .entry)) at ⌝ }
 {
-    match number_at(s, at) {
+    let len = s.len();
+    if at < len {
+        if s[at] == 0xCB {
+            return given_real(is_there(len, at + 1, 8), big_at(s, at + 1, 8));
+        }
+    }
+    real_in(number_at(s, at))
+}
+
+// A finite real of eight bytes n, where they are there: its exponent's field is not all ones.
+fn given_real(there: bool, n: u64) -> Judged
+    ensures { λ r. ⌜ r ≡ tellOf (realValueIn (given there (realBy binary64 n))) ⌝ }
+{
+    if there {
+        if n % 0x8000_0000_0000_0000 / 0x10_0000_0000_0000 == 0x7FF {
+            return bad();
+        }
+        return Judged {
+            state: 0,
+            word: 0,
+            figure: f64::from_bits(n),
+        };
+    }
+    bad()
+}
+
+fn real_in(n: Number) -> Judged
+    ensures { λ r. ⌜ r ≡ tellOf (realValueIn n) ⌝ }
+{
+    match n {
         Number::Signed(_) => bad(),
         Number::Unsigned(_) => bad(),
         Number::Real(x) => Judged {
@@ -74,6 +117,13 @@ fn whole_in(n: Number, lo: u64, hi: u64) -> Judged
         Number::Real(_) => bad(),
         Number::Not => bad(),
     }
+}
+
+// The unsigned number n up to hi, where its bytes are there.
+fn given_upto(there: bool, n: u64, hi: u64) -> Judged
+    ensures { λ r. ⌜ r ≡ tellOf (wholeIn 0 hi (given there (Number.Unsigned n))) ⌝ }
+{
+    if there { upto(hi, n) } else { bad() }
 }
 
 // A whole number from 0 to hi.

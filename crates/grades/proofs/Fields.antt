@@ -1,16 +1,15 @@
--- One field, read by its code: the cell settles its fault, its 64 bits and its real; a number past the kinds is a map's. Assumes nothing.
+-- One field, read by its code: the cell settles its fault, its 64 bits and its real. Assumes nothing.
 use mathlib.Core.Path.{_≡_, refl, sym, ap, _∙_}
 use mathlib.Core.Bool.{Bool, true, false, _&&_, not}
-use mathlib.Core.List.{List, [], _∷_}
-use Prim.Native.Nat.{ℕ, zero, suc, _/_, _%_, _≤_}
-use native.Mathlib.Nat.{le-of-suc-le-suc, not-suc-le-zero}
-use lib.Dec.{eqb, lit≤}
+use mathlib.Core.List.{List}
+use Prim.Native.Nat.{ℕ, _/_, _%_, _≤_}
+use lib.Dec.{eqb}
 use lib.Ieee.{Float}
 use lib.ListN.{length, getD}
 use borrow.Author.Tests.{eq-eqb, ne-eqb}
 use Rattle.octets.specs.Choice.{either}
 use Rattle.field.specs.declared.Judged.{Judged}
-use Rattle.field.specs.Kind.{Kind, kinds, kindIn as kindAmong, kindOf}
+use Rattle.field.specs.Kind.{kindOf}
 use Rattle.field.specs.Cell.{Cell, stateOf, toldOf}
 use Rattle.field.specs.At.{cellAt}
 use Rattle.message.specs.Record.{wordIn, figureIn}
@@ -18,17 +17,6 @@ use Rattle.message.specs.Reading.{faultOf}
 use Rattle.grades.specs.declared.Held.{Held}
 use Rattle.grades.specs.Codes.{mustIn, kindIn}
 use Rattle.grades.specs.Read.{heldBy}
-
--- a number past the kinds is a map's
-past-kinds : (l : List Kind) (n : ℕ) → length l ≤ n → kindAmong l n ≡ Kind.maps
-unfolding kindAmong
-past-kinds [] n h = refl
-past-kinds (k ∷ ks) zero h = absurd (not-suc-le-zero h)
-past-kinds (k ∷ ks) (suc n) h = past-kinds ks n (le-of-suc-le-suc h)
-
-pub kind-past : (n : ℕ) → 19 ≤ n → kindOf 19 ≡ kindOf n
-unfolding kinds
-kind-past n h = past-kinds kinds 19 (lit≤ tt) ∙ sym (past-kinds kinds n h)
 
 -- what a cell's told form says
 told-state : (x : Cell) → toldOf x .state ≡ stateOf x
@@ -53,6 +41,9 @@ told-figure (Cell.good v) = refl
 abbrev faultBy : ℕ → ℕ → ℕ
 faultBy state code = either (eqb state 2 && not (mustIn code)) (λ _. 0) (λ _. state)
 
+pub sound : (state code : ℕ) → state ≡ 0 → 0 ≡ faultBy state code
+sound state code e = rw e
+
 pub lacking : (state code : ℕ) → state ≡ 2 → code / 64 % 2 ≡ 1 → 2 ≡ faultBy state code
 lacking state code e m = rw (e, eq-eqb _ _ m)
 
@@ -73,7 +64,7 @@ fault-is false Cell.bad = refl
 fault-is false (Cell.good v) = refl
 
 pub held : (s places : List ℕ) (code slot place p kind fault state word : ℕ) (figure : Float) → slot ≡ code % 64 → place ≡ getD places slot 0 → p ≡ place
-    → kindOf kind ≡ kindOf (kindIn code) → _≡_ {A = Judged} (record { state = state; word = word; figure = figure }) (toldOf (cellAt (kindOf kind) s p))
+    → kind ≡ kindIn code → _≡_ {A = Judged} (record { state = state; word = word; figure = figure }) (toldOf (cellAt (kindOf kind) s p))
     → fault ≡ faultBy state code → _≡_ {A = Held} (record { place = place; fault = fault; word = word; figure = figure }) (heldBy s places code)
 unfolding heldBy
 held s places code slot place p kind fault state word figure es ep eq ek ec ef =
@@ -84,4 +75,4 @@ held s places code slot place p kind fault state word figure es ep eq ek ec ef =
     let g : figure ≡ figureIn x = ap (λ (j : Judged). j .figure) ec ∙ told-figure x in
     cc
 
-pub ruleset fields = (kind-past, lacking, spared, other, held)
+pub ruleset fields = (sound, lacking, spared, other, held)

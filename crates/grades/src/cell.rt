@@ -4,7 +4,6 @@ ghost use mathlib.Core.Path.{_≡_};
 ghost use mathlib.Core.Bool.{_&&_, not};
 ghost use lib.Dec.{eqb};
 ghost use Rattle.octets.specs.Choice.{either};
-ghost use Rattle.field.specs.Kind.{kindOf};
 ghost use Rattle.grades.specs.Codes.{mustIn, kindIn};
 ghost use Rattle.grades.specs.Read.{heldBy};
 
@@ -14,18 +13,20 @@ pub fn wide(x: u16) -> usize
     x as usize
 }
 
-// The number of a code's kind; past the last kind all numbers are as 19.
-fn kind_of(code: u16) -> u8
-    ensures { λ r. ⌜ kindOf r ≡ kindOf (kindIn code) ⌝ }
+// The number of a code's kind.
+fn kind_of(code: u16) -> u16
+    ensures { λ r. ⌜ r ≡ kindIn code ⌝ }
 {
-    let kind = code / 128;
-    if kind < 19 { kind as u8 } else { 19 }
+    code / 128
 }
 
 // The fault of a field that stands so: a missing one that is not mandatory has none.
 fn fault_of(code: u16, state: u8) -> u8
     ensures { λ r. ⌜ r ≡ either (eqb state 2 && not (mustIn code)) (λ _. 0) (λ _. state) ⌝ }
 {
+    if state == 0 {
+        return 0;
+    }
     if state == 2 {
         if code / 64 % 2 == 1 { 2 } else { 0 }
     } else {
