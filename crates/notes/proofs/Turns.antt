@@ -6,14 +6,16 @@ use mathlib.Core.List.{List, [], _∷_, _++_}
 use Prim.Native.Nat.{ℕ, zero, suc, _+_, _-_, _≤_, _<_}
 use native.Mathlib.Numerals.{sub-one}
 use native.Mathlib.Omega.{arith}
+use lib.Dec.{eqb, eqb→eq}
 use lib.ListN.{length, getD, take, drop, set, length-append}
 use mir.Syntax.{w16}
 use mir.Val.{Fits}
 use Rattle.octets.proofs.Places.{here, here-lt}
+use Rattle.octets.proofs.Ranges.{ranged}
 use Rattle.element.specs.declared.Head.{Head}
 use Rattle.element.specs.declared.Step.{Step}
 use Rattle.element.specs.declared.Step.the-variants.{Next, Broken}
-use Rattle.element.specs.Lead.{headOf}
+use Rattle.element.specs.Lead.{headOf, leadBytes, rowIn}
 use Rattle.element.specs.Form.{Role, then, times, elementOf, itemsOf}
 use Rattle.element.specs.At.{bodyFrom}
 use Rattle.element.specs.Tree.{Tree, bytesOf, bytesOfAll, bytesOfPairs, Lawful}
@@ -109,13 +111,24 @@ module _ (old q : ℕ) where
 
 pub ruleset places = (note-first, note-more)
 
+-- below C0 a lead byte is the whole head
+wide-none : (b : ℕ) → b < 0xC0 → headOf b .wide ≡ 0
+unfolding headOf leadBytes rowIn
+wide-none b h = eqb→eq (headOf b .wide) 0 (ranged (λ k. eqb (headOf k .wide) 0) 0 0xC0 tt b (omega arith) (omega arith))
+
+-- where a body begins
+module _ (s : List ℕ) (p : ℕ) where
+  pub body-low : getD s p 0 < 0xC0 → p + 1 ≡ bodyFrom s p
+  body-low h = omega (arith, wide-none (getD s p 0) h)
+
+  pub body-behind : (h : Head) → Says (getD s p 0) h → p + 1 + h .wide ≡ bodyFrom s p
+  body-behind h y = rw (y .is)
+
+pub ruleset bodies = (body-low, body-behind)
+
 -- the key's bytes, where the code looks for them
-module _ (s : List ℕ) (p q : ℕ) (k : IsKey s p q) (h : Head) (y : Says (getD s p 0) h) where
-  pub from-le : p + 1 + h .wide ≤ q
-  from-le = rw (y .is) (k .head)
+pub key-slot : (s : List ℕ) (p q f : ℕ) → f ≡ bodyFrom s p → (r : ℕ) → r ≡ slotOf (take (q - f) (drop f s)) → r ≡ slotOf (keyAt s p q)
+unfolding keyAt
+key-slot s p q f e r x = x ∙ rw e
 
-  pub key-slot : (r : ℕ) → r ≡ slotOf (take (q - (p + 1 + h .wide)) (drop (p + 1 + h .wide) s)) → r ≡ slotOf (keyAt s p q)
-  unfolding keyAt
-  key-slot r e = e ∙ rw (y .is)
-
-pub ruleset slots = (from-le, key-slot)
+pub ruleset slots = (key-slot)

@@ -8,6 +8,7 @@ ghost use mathlib.Core.Bool.{true};
 ghost use Prim.Native.Nat.{_≤_};
 ghost use lib.ListN.{length};
 ghost use Rattle.element.specs.Form.{itemsOf};
+ghost use Rattle.element.specs.At.{bodyFrom};
 ghost use Rattle.names.specs.Names.{slotOf};
 ghost use Rattle.message.specs.Notes.{keyAt, noteOf, notesOf, unnoted};
 ghost use Rattle.notes.specs.Noted.{brokenAt, IsKey};
@@ -76,8 +77,19 @@ fn slot_at(s: &[u8], p: usize, q: usize) -> usize
     ensures is { λ r. ⌜ r ≡ slotOf (keyAt (now (s .entry)) p q) ⌝ }
     ensures small { λ r. ⌜ r ≤ 49 ⌝ }
 {
-    let h = walk::lead::head_of(s[p]);
-    let wide = h.wide;
-    let from = p + 1 + wide;
+    let from = body_of(s, p);
     names::slot_of(&s[from..q])
+}
+
+// Where the body of the element at p begins. Below C0 no bytes of length follow: so most keys are told by one test.
+fn body_of(s: &[u8], p: usize) -> usize
+    requires { ⌜ bodyFrom (now s) p ≤ length (now s) ⌝ }
+    ensures { λ r. ⌜ r ≡ bodyFrom (now (s .entry)) p ⌝ }
+{
+    let b = s[p];
+    if b < 0xC0 {
+        return p + 1;
+    }
+    let h = walk::lead::head_of(b);
+    p + 1 + h.wide
 }

@@ -3,5 +3,6 @@ pub mod Sizes
 pub mod Quick
 pub mod Elements
 pub mod Turns
+pub mod Runs
 pub mod Outermost
 pub mod Settled

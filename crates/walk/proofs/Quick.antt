@@ -3,7 +3,7 @@
 use mathlib.Core.Path.{_≡_, refl, sym, ap, ap₂, _∙_}
 use mathlib.Core.Bool.{Bool, true, false, not, _||_}
 use mathlib.Core.List.{List}
-use Prim.Native.Nat.{ℕ, zero, suc, _+_, _-_, _≤_, _<_}
+use Prim.Native.Nat.{ℕ, zero, suc, _+_, _-_, _%_, _≤_, _<_}
 use native.Mathlib.Omega.{arith}
 use lib.Dec.{T, ltb, leb, eqb, eqb→eq}
 use lib.ListN.{length, getD}
@@ -23,9 +23,9 @@ use Rattle.element.specs.Lead.{headOf, leadBytes, rowIn}
 use Rattle.element.specs.Form.{Role, isText, faultOf, bodyOf, spanBy, spanOf, spanned, elementOf, itemsOf}
 use Rattle.element.proofs.Leads.{head-more}
 use Rattle.element.proofs.Steps.{fault-none, none-fault, element-span, suits-value}
-use Rattle.walk.specs.Short.{quickBy, quickOf, present, quickAt, quickAfter, Bounded, After}
+use Rattle.walk.specs.Short.{twoTo, isNumber, quickBy, quickOf, present, quickAt, quickAfter, Bounded, After}
 use Rattle.walk.proofs.Leads.{row, text-fix}
-use Rattle.walk.proofs.Sizes.{size-low, size-text, size-never}
+use Rattle.walk.proofs.Sizes.{size-low, size-text, size-byte, size-number, size-never}
 
 -- the span that r tells of
 abbrev toldSpan : ℕ → ℕ → Span
@@ -149,6 +149,36 @@ module _ (s : List ℕ) (left : ℕ) (role : Role) (at count : ℕ) where
     unfolding quickAt
     opens k = rw (f, ← e) (sym (simp (le-ltb n 64 k)))
 
+-- n bytes, where so many are there
+pub within-not : (n rest : ℕ) → rest < n → 0 ≡ either (leb n rest) (λ _. n) (λ _. 0)
+within-not n rest h = sym (simp (lt-leb n rest h))
+
+pub within-is : (n rest : ℕ) → n ≤ rest → n ≡ either (leb n rest) (λ _. n) (λ _. 0)
+within-is n rest h = sym (simp (le-leb n rest h))
+
+-- what a lead byte tells, where so many bytes are there from it on
+module _ (b rest n : ℕ) (e : n ≡ quickOf b) where
+  pub told-within : n < 64 → (r : ℕ) → r ≡ either (leb n rest) (λ _. n) (λ _. 0) → r ≡ present rest (quickOf b)
+  told-within k r f = f ∙ rw (← e) (sym (simp (lt-ltb n 64 k)))
+
+  pub told-opens : 64 ≤ n → n ≡ present rest (quickOf b)
+  told-opens k = rw (← e) (sym (simp (le-ltb n 64 k)))
+
+-- a text
+pub told-text : (b rest : ℕ) → 0xA0 ≤ b → b < 0xC0 → (r : ℕ) → r ≡ either (leb (b - 0x9F) rest) (λ _. b - 0x9F) (λ _. 0) → r ≡ present rest (quickOf b)
+told-text b rest g h r e = told-within b rest (b - 0x9F) (size-text b g h) (omega arith) r e
+
+-- a number
+pub told-number : (b rest : ℕ) (i : Bool) → i ≡ isNumber b → i ≡ true → b < 256 → (t : ℕ) → t ≡ twoTo (b % 4) → t ≤ 16
+    → (r : ℕ) → r ≡ either (leb (1 + t) rest) (λ _. 1 + t) (λ _. 0) → r ≡ present rest (quickOf b)
+told-number b rest i e u h t f m r g = told-within b rest (1 + t) (size-number b i e u h t f) (omega arith) r g
+
+-- a byte of 80 to FF
+pub told-byte : (b rest : ℕ) → b ≡ 0xCC → 2 ≤ rest → 2 ≡ present rest (quickOf b)
+told-byte b rest e h = told-within b rest 2 (size-byte b e) (omega arith) 2 (within-is 2 rest h)
+
+pub ruleset tolds = (told-within, told-text, told-number, told-byte, told-opens, within-not, within-is)
+
 -- a value or part
 module _ (s : List ℕ) (left at count : ℕ) (h : at < length s) (m : count < 1024) (d : left ≡ 0 → ⊥) where
   sound-value : (getD s at 0 ≡ 0xC1 → ⊥) → faultOf s left Role.value at count ≡ 0
@@ -156,21 +186,20 @@ module _ (s : List ℕ) (left at count : ℕ) (h : at < length s) (m : count < 1
       none-fault s left Role.value at count
       (record { there = h; used = u; few = m; deep = omega arith; suits = suits-value (headOf (getD s at 0) .shape) })
 
-  pub value-fits : (n : ℕ) → n ≡ quickOf (getD s at 0) → n < 64 → n ≤ length s - at → n ≡ quickAt s left Role.value at count
-  value-fits n e k l = go (eqb (getD s at 0) 0xC1) refl
+  pub value-told : (r : ℕ) → r ≡ present (length s - at) (quickOf (getD s at 0)) → r ≡ quickAt s left Role.value at count
+  unfolding quickAt
+  value-told r e = go (eqb (getD s at 0) 0xC1) refl
     where
-      go : (t : Bool) → eqb (getD s at 0) 0xC1 ≡ t → n ≡ quickAt s left Role.value at count
+      go : (t : Bool) → eqb (getD s at 0) 0xC1 ≡ t → r ≡ either (eqb (faultOf s left Role.value at count) 0) (λ _. present (length s - at) (quickOf (getD s at 0))) (λ _. 0)
       go true t =
           let z : 0 ≡ quickOf (getD s at 0) = size-never (getD s at 0) (eqb-true (getD s at 0) 0xC1 t) in
-          e ∙ sym z ∙ none-told s left Role.value at count z
-      go false t = fits s left Role.value at count n (sound-value (eqb-false (getD s at 0) 0xC1 t)) e k l
+          let f : 0 ≡ present (length s - at) (quickOf (getD s at 0)) = rw (← z) (sym (simp (le-leb 0 (length s - at) (omega arith)))) in
+          e ∙ sym f ∙ either-way s left Role.value at count f
+      go false t = rw (sound-value (eqb-false (getD s at 0) 0xC1 t)) e
 
   pub value-one : getD s at 0 < 0x80 → 1 ≡ quickAt s left Role.value at count
-  value-one l = value-fits 1 (size-low (getD s at 0) l) (omega arith) (omega arith)
-
-  pub value-opens : (n : ℕ) → n ≡ quickOf (getD s at 0) → 64 ≤ n → n ≡ quickAt s left Role.value at count
-  value-opens n e k =
-      opens s left Role.value at count n (sound-value (λ u. omega (arith, size-never (getD s at 0) u))) e k
+  value-one l =
+      value-told 1 (rw (← size-low (getD s at 0) l) (sym (simp (le-leb 1 (length s - at) (omega arith)))))
 
 -- a lead byte that is no short text is no short key
 abbrev noKey : ℕ → Bool
@@ -212,7 +241,7 @@ module _ (s : List ℕ) (left at count : ℕ) where
         }))
         (size-text (getD s at 0) g k) (omega arith) l
 
-pub ruleset quicks = (quick-past, quick-many, quick-deep, quick-cut, value-fits, value-one, value-opens, key-many, key-fits, key-cut, key-low, key-high)
+pub ruleset quicks = (quick-past, quick-many, quick-deep, value-told, value-one, key-many, key-fits, key-cut, key-low, key-high)
 
 -- the value behind a key
 module _ (s : List ℕ) (left at count y : ℕ) where

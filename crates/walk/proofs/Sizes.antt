@@ -58,6 +58,10 @@ module _ (b : ℕ) where
   size-nil g h n =
       simp (ne-eqb b 0xC1 n) at (size-in (λ k. either (eqb k 0xC1) (λ _. 0) (λ _. 1)) 0xC0 4 tt b g (omega arith))
 
+  pub size-byte : b ≡ 0xCC → 2 ≡ quickOf b
+  unfolding quickOf headOf leadBytes rowIn
+  size-byte e = size-in (λ k. 2) 0xCC 1 tt b (omega arith) (omega arith)
+
   module _ (r : Bool) (e : r ≡ isNumber b) where
     pub size-number : r ≡ true → b < 256 → (t : ℕ) → t ≡ twoTo (b % 4) → 1 + t ≡ quickOf b
     unfolding quickOf headOf leadBytes rowIn
@@ -77,7 +81,7 @@ module _ (b : ℕ) where
   unfolding quickOf headOf leadBytes rowIn
   size-long g h = size-in (λ k. 0) 0xD9 7 tt b g (omega arith)
 
-pub ruleset sizes = (size-low, size-high, size-map, size-array, size-text, size-never, size-nil, size-number, size-sized, size-fixext, size-long)
+pub ruleset sizes = (size-low, size-high, size-map, size-array, size-text, size-never, size-nil, size-byte, size-number, size-sized, size-fixext, size-long)
 
 -- an element without parts
 module _ (z : ℕ) where

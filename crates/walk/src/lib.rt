@@ -2,6 +2,7 @@
 // break with its place, or the count of elements. It takes any bytes; no stated length is trusted; it ends
 // because the levels left or the items left fall, and it visits at most 1,024 elements.
 pub mod lead;
+pub mod run;
 pub mod short;
 pub mod steps;
 

@@ -1,13 +1,31 @@
 // What the loops do by a lead byte alone; 0 means that `steps::element` is to look, and to judge.
 use crate::lead::two_to;
 ghost use mathlib.Core.Path.{_≡_};
-ghost use Prim.Native.Nat.{_+_, _≤_};
+ghost use Prim.Native.Nat.{_+_, _-_, _*_, _≤_, _<_};
+ghost use lib.Dec.{leb};
 ghost use lib.ListN.{length};
+ghost use Rattle.octets.specs.Choice.{either};
 ghost use Rattle.element.specs.Form.{Role};
-ghost use Rattle.walk.specs.Short.{isNumber, isShort, quickOf, quickAt, Bounded};
+ghost use Rattle.walk.specs.Short.{isNumber, isShort, present, quickOf, quickAt, Bounded};
 
-// The value or part at a place: its bytes, or 64 and a map's pairs, or 128 and an array's parts, from the lead byte.
+// The value at a place: its bytes, or 64 and a map's pairs, or 128 and an array's parts, from the lead byte.
 pub fn quick_value(s: &[u8], at: usize, count: usize, left: usize) -> usize
+    ensures is { λ r. ⌜ r ≡ quickAt (now (s .entry)) left Role.value at count ⌝ }
+    ensures bounds { λ r. ⌜ Bounded (length (now (s .entry))) left at count r ⌝ }
+{
+    quick_at(s, at, count, left, false)
+}
+
+// The same of an array's part. Most arrays hold bytes, so that many a part begins with CC.
+pub fn quick_part(s: &[u8], at: usize, count: usize, left: usize) -> usize
+    ensures is { λ r. ⌜ r ≡ quickAt (now (s .entry)) left Role.value at count ⌝ }
+    ensures bounds { λ r. ⌜ Bounded (length (now (s .entry))) left at count r ⌝ }
+{
+    quick_at(s, at, count, left, true)
+}
+
+// The same of both; `part` chooses only the order of the tests, and not the answer.
+fn quick_at(s: &[u8], at: usize, count: usize, left: usize, part: bool) -> usize
     ensures is { λ r. ⌜ r ≡ quickAt (now (s .entry)) left Role.value at count ⌝ }
     ensures bounds { λ r. ⌜ Bounded (length (now (s .entry))) left at count r ⌝ }
 {
@@ -24,14 +42,78 @@ pub fn quick_value(s: &[u8], at: usize, count: usize, left: usize) -> usize
     if b < 0x80 {
         return 1;
     }
+    told(b, s.len() - at, part)
+}
+
+// What a lead byte tells, where so many bytes are there from it on. The frequent kinds are tested first.
+fn told(b: u8, rest: usize, part: bool) -> usize
+    ensures is { λ r. ⌜ r ≡ present rest (quickOf b) ⌝ }
+    ensures bounds { λ r. ⌜ (r ≤ 160) × (r ≤ rest + 160 * (r - 63)) ⌝ }
+{
+    if b < 0xC0 {
+        return told_low(b, rest);
+    }
+    if part {
+        told_part(b, rest)
+    } else {
+        told_high(b, rest)
+    }
+}
+
+// Texts before maps and arrays.
+fn told_low(b: u8, rest: usize) -> usize
+    requires { ⌜ b < 0xC0 ⌝ }
+    ensures is { λ r. ⌜ r ≡ present rest (quickOf b) ⌝ }
+    ensures bounds { λ r. ⌜ (r ≤ 160) × (r ≤ rest + 160 * (r - 63)) ⌝ }
+{
+    if 0xA0 <= b {
+        return within((b - 0x9F) as usize, rest);
+    }
+    told_any(b, rest)
+}
+
+// A byte of 80 to FF, before the rest.
+fn told_part(b: u8, rest: usize) -> usize
+    ensures is { λ r. ⌜ r ≡ present rest (quickOf b) ⌝ }
+    ensures bounds { λ r. ⌜ (r ≤ 160) × (r ≤ rest + 160 * (r - 63)) ⌝ }
+{
+    if b == 0xCC {
+        if 2 <= rest {
+            return 2;
+        }
+    }
+    told_high(b, rest)
+}
+
+// Numbers before the rest.
+fn told_high(b: u8, rest: usize) -> usize
+    ensures is { λ r. ⌜ r ≡ present rest (quickOf b) ⌝ }
+    ensures bounds { λ r. ⌜ (r ≤ 160) × (r ≤ rest + 160 * (r - 63)) ⌝ }
+{
+    if is_number(b) {
+        return within(1 + two_to(b % 4), rest);
+    }
+    told_any(b, rest)
+}
+
+// Any lead byte.
+fn told_any(b: u8, rest: usize) -> usize
+    ensures is { λ r. ⌜ r ≡ present rest (quickOf b) ⌝ }
+    ensures bounds { λ r. ⌜ (r ≤ 160) × (r ≤ rest + 160 * (r - 63)) ⌝ }
+{
     let n = quick_of(b);
     if 64 <= n {
         return n;
     }
-    if s.len() - at < n {
-        return 0;
-    }
-    n
+    within(n, rest)
+}
+
+// n bytes, where so many are there; else 0.
+fn within(n: usize, rest: usize) -> usize
+    ensures is { λ r. ⌜ r ≡ either (leb n rest) (λ _. n) (λ _. 0) ⌝ }
+    ensures bounds { λ r. ⌜ (r ≤ n) × (r ≤ rest) ⌝ }
+{
+    if rest < n { 0 } else { n }
 }
 
 // The bytes of the key at a place, where it is a text of A0 to BF and one element more may be counted behind it.

@@ -2,8 +2,10 @@
 // the items left at each turn of a loop.
 use crate::lead::head_of;
 use crate::lead::is_text;
+use crate::run::low_run;
 use crate::short::is_short;
 use crate::short::quick_key;
+use crate::short::quick_part;
 use crate::short::quick_value;
 use element::Shape;
 use element::Span;
@@ -74,15 +76,16 @@ pub fn value(s: &[u8], at: usize, count: usize, left: usize) -> Step
     held(s, at, count, left, z)
 }
 
-// The n parts of an array from a place on.
+// The n parts of an array from a place on. Many arrays begin with bytes below 0x80: these go by eights.
 pub fn values(s: &[u8], at: usize, count: usize, left: usize, n: usize) -> Step
     ensures { λ r. ⌜ r ≡ itemsOf (now (s .entry)) left false n at count ⌝ }
 {
-    let mut p = at;
-    let mut c = count;
-    let mut k = n;
+    let r = low_run(s, at, count, left, n);
+    let mut p = at + r;
+    let mut c = count + r;
+    let mut k = n - r;
     while 0 < k {
-        let z = quick_value(s, p, c, left);
+        let z = quick_part(s, p, c, left);
         if is_short(z) {
             p += z;
             c += 1;

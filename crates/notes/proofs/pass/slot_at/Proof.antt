@@ -6,25 +6,16 @@ use Rattle.notes.proofs.pass.slot_at.Tie as tie
 use Rattle.notes.proofs.pass.slot_at.Reads as reads
 use Rattle.notes.proofs.pass.slot_at.Lts as lts
 use Rattle.names.proofs.slot_of.Reads as slot-of-reads
-use Rattle.walk.proofs.lead.head_of.Reads as head-of-reads
+use Rattle.notes.proofs.pass.body_of.Reads as body-of-reads
 
-shared-slice-read-head-of : tie.Need-shared-slice-read-head-of
-shared-slice-read-head-of c = search needs
-
-head-of-requires : tie.Need-head-of-requires
-head-of-requires c κs = search needs
-
-add-from : tie.Need-add-from
-add-from c = search (slots, needs)
-
-add-from-2 : tie.Need-add-from-2
-add-from-2 c = search (slots, needs)
+body-of-requires : tie.Need-body-of-requires
+body-of-requires c κs = search needs
 
 sub-slot-of : tie.Need-sub-slot-of
-sub-slot-of c = search (slots, needs)
+sub-slot-of c = search needs
 
 part-slot-of-start : tie.Need-part-slot-of-start
-part-slot-of-start c = search (slots, needs)
+part-slot-of-start c = search needs
 
 part-slot-of-end : tie.Need-part-slot-of-end
 part-slot-of-end c = search needs
@@ -39,10 +30,7 @@ pub slot-at-spec : {M : Type 1} → statement M
 slot-at-spec =
     tie.close
     (tie.spec
-    shared-slice-read-head-of
-    head-of-requires
-    add-from
-    add-from-2
+    body-of-requires
     sub-slot-of
     part-slot-of-start
     part-slot-of-end
