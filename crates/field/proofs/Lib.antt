@@ -8,6 +8,7 @@ pub mod Octets
 pub mod Arrays
 pub mod Copies
 pub mod Runs
+pub mod Intos
 pub mod Strings
 pub mod Places
 pub mod Feeding

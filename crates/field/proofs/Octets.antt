@@ -1,7 +1,7 @@
 -- A part of an array of bytes: a whole number from 0 to 255 in any form, and the place behind it. Each law in the shape of a need of the code.
 -- Assumes nothing.
 use mathlib.Core.Path.{_≡_, refl, sym, ap, ap₂, _∙_}
-use mathlib.Core.Bool.{true, false}
+use mathlib.Core.Bool.{Bool, true, false}
 use mathlib.Core.List.{List}
 use mathlib.Core.Option.{Option, some, none}
 use Prim.Native.Nat.{ℕ, _+_, _≤_, _<_}
@@ -11,10 +11,11 @@ use lib.Dec.{lit<}
 use lib.IntN.{ℤ}
 use lib.Ieee.{Float}
 use lib.ListN.{length, getD}
-use mir.Syntax.{w8}
+use mir.Syntax.{w8, w64}
 use mir.Val.{Fits}
 use borrow.Author.Tests.{le-leb, lt-leb}
-use Rattle.octets.specs.Number.{bigAt}
+use Rattle.octets.specs.Number.{bigAt, isThere}
+use Rattle.octets.proofs.Reading.{inside}
 use Rattle.element.specs.declared.Shape.the-variants.{Plain}
 use Rattle.element.specs.Lead.{headOf, leadBytes, rowIn}
 use Rattle.element.specs.Form.{spanOf}
@@ -72,6 +73,20 @@ module _ (s : List ℕ) (at : ℕ) where
           (unsigned-is 0 (lit< tt) s at Not false 0 there e (sym (simp (lt-leb (at + 1 + 1) (length s) (omega arith))))
           (sym (simp (lt-leb (at + 1 + 1) (length s) (omega arith)))) refl)
 
+  -- where two bytes are there
+  module _ (t : Bool) (e : t ≡ isThere (length s) at 2) (u : t ≡ true) where
+    pub first-there : at < length s
+    first-there = omega (arith, inside (length s) at 2 t e u)
+
+    pub second-there : at + 1 < length s
+    second-there = omega (arith, inside (length s) at 2 t e u)
+
+    pub next-fits : Fits w64 (length s) → Fits w64 (at + 1)
+    next-fits f = record { fits = omega (arith, inside (length s) at 2 t e u, f .fits) }
+
+    pub behind-fits : Fits w64 (length s) → Fits w64 (at + 2)
+    behind-fits f = record { fits = omega (arith, inside (length s) at 2 t e u, f .fits) }
+
   module _ (x : Number) (e : x ≡ numberOf (leafAt s at)) where
     pub octet-signed : (z : ℤ) → x ≡ Signed z → Unfit ≡ octetAt s at
     octet-signed z q = by-number (Signed z) (sym q ∙ e)
@@ -93,3 +108,5 @@ module _ (s : List ℕ) (at : ℕ) where
       octet-any next h p = by-octet (Unsigned n) n next (sym q ∙ e) (fits-octet n h) p
 
 pub ruleset octets = (octet-past, octet-small, octet-wide, octet-cut, octet-signed, octet-real, octet-not, octet-large, octet-any, arith)
+
+pub ruleset parts = (first-there, second-there, next-fits, behind-fits, octet-small, octet-wide, arith)

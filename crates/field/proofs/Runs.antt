@@ -47,7 +47,7 @@ module _ (s : List ℕ) (at n r : ℕ) (y : LowRun s at n r) where
   run-there : (i : ℕ) → i < r → at + i < length s
   run-there i h = omega (arith, y .within)
 
-  run-octet : (i : ℕ) → i < r → Byte (getD s (at + i) 0) (at + i + 1) ≡ octetAt s (at + i)
+  pub run-octet : (i : ℕ) → i < r → Byte (getD s (at + i) 0) (at + i + 1) ≡ octetAt s (at + i)
   run-octet i h = octet-small s (at + i) (run-there i h) (y .low i h)
 
 -- whether the parts behind a run are bytes is whether all are

@@ -17,6 +17,7 @@ use Rattle.field.specs.Kind.{Value}
 use Rattle.field.specs.Judge.{octetIn, octetsIn, realIn, realsIn}
 use Rattle.field.specs.Cell.{zero64}
 use Rattle.field.specs.At.{endOf, leavesFrom}
+use Rattle.field.specs.Into.{leadingIn}
 
 abbrev pub octetBy : Option ℕ → ℕ → Octet
 octetBy none next = Unfit
@@ -39,6 +40,10 @@ pub record LowRun (s : List ℕ) (at n r : ℕ) : Type 0 where
 -- n such numbers behind each other
 unfoldable pub octetsFrom : List ℕ → ℕ → ℕ → Option (List ℕ)
 octetsFrom s n at = octetsIn (leavesFrom s n at)
+
+-- as many of them as come before the first other part
+unfoldable pub leadingFrom : List ℕ → ℕ → ℕ → List ℕ
+leadingFrom s n at = leadingIn (leavesFrom s n at)
 
 abbrev pub putIf : Option (List ℕ) → ℕ → List ℕ → List ℕ
 putIf none i room = room

@@ -3,6 +3,7 @@ pub mod Version
 pub mod Judge
 pub mod Cell
 pub mod At
+pub mod Into
 pub mod Read
 pub mod Part
 pub mod Item

@@ -158,7 +158,7 @@ fn copy(s: &[u8], from: usize, n: usize, out: &mut [u8])
 }
 
 // How many of n parts from a place on, by eights, are numbers of one byte. Arrays often begin with many.
-fn low_run(s: &[u8], from: usize, n: usize) -> usize
+pub fn low_run(s: &[u8], from: usize, n: usize) -> usize
     ensures { λ r. ⌜ LowRun (now (s .entry)) from n r ⌝ }
 {
     let mut r: usize = 0;
@@ -173,7 +173,7 @@ fn low_run(s: &[u8], from: usize, n: usize) -> usize
 }
 
 // The number at a place. Most are written in one byte, or in one behind CC.
-fn octet_at(s: &[u8], at: usize) -> Octet
+pub fn octet_at(s: &[u8], at: usize) -> Octet
     ensures { λ r. ⌜ r ≡ octetAt (now (s .entry)) at ⌝ }
 {
     if s.len() <= at {

@@ -2,6 +2,7 @@
 mod array;
 mod flag;
 mod head;
+mod into;
 mod kind;
 mod map;
 mod place;
@@ -16,6 +17,7 @@ ghost use Rattle.field.specs.Kind.{Kind, kindOf};
 ghost use Rattle.field.specs.Judge.{judge};
 ghost use Rattle.field.specs.Cell.{toldOf};
 ghost use Rattle.field.specs.At.{shallowAt, cellAt, filled, positioned};
+ghost use Rattle.field.specs.Into.{readInto};
 
 // How a field stands: 0 good, 1 invalid, 2 missing, 3 more than once; its value as 64 bits or as a real.
 pub struct Judged {
@@ -100,6 +102,29 @@ pub fn cell_at(s: &[u8], p: usize, kind: u16) -> Judged
         };
     }
     kind::kind_at(s, p, kind)
+}
+
+// The value of such a field that is an array of bytes, as many as the room has space for, and the bytes at the room's start, in one pass.
+// They stop at the first part that is no byte. The room is as it was where there is no array, or it has too many parts.
+pub fn octets_read(s: &[u8], p: usize, out: &mut [u8]) -> Judged
+    ensures told { λ r. ⌜ r ≡ toldOf (cellAt (Kind.arrays 0 (length (now (out .entry)))) (now (s .entry)) p) ⌝ }
+    ensures room { λ _. ⌜ now (out .exit) ≡ readInto (now (s .entry)) p (now (out .entry)) ⌝ }
+{
+    if p == 0 {
+        return Judged {
+            state: 2,
+            word: 0,
+            figure: 0.0,
+        };
+    }
+    if p == 1 {
+        return Judged {
+            state: 3,
+            word: 0,
+            figure: 0.0,
+        };
+    }
+    into::array_into(s, p, out)
 }
 
 // The bytes of the array of numbers at a place, from the room's start on; nothing where they are no such array or have no room.

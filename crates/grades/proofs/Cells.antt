@@ -18,7 +18,7 @@ use Rattle.message.specs.Record.{wordIn, figureIn}
 use Rattle.message.specs.Reading.{faultOf, graded, gravest, lookIn}
 use Rattle.message.specs.Cells.{cellsAt}
 use Rattle.grades.specs.Codes.{codeOf, slotIn}
-use Rattle.grades.specs.Graded.{Graded, cellBy, gradedBy, ungraded, gradedFrom}
+use Rattle.grades.specs.Graded.{Graded, cellBy, userBy, gradedBy, ungraded, gradedFrom}
 use Rattle.grades.proofs.Stores.{stored, stored-length, stored-blank, last}
 use Rattle.grades.proofs.Codes.{slot-in, must-in, cell-by, known}
 
@@ -29,7 +29,7 @@ unfolding gradedFrom gravest cellsAt
 gravest-from s places [] g i = refl
 gravest-from s places (f ∷ l) g i =
     let code = codeOf f in
-    gravest-from s places l (gradedBy i code (getD places (slotIn code) 0) (cellBy s places code) g) (suc i)
+    gravest-from s places l (gradedBy s i code (getD places (slotIn code) 0) (cellBy s places code) g) (suc i)
     ∙ ap₂ (λ (m : Bool) (c : Cell). gravest (max (g .grade) (graded (faultOf m c) i)) (suc i) l (cellsAt l s places)) (must-in f) (cell-by f s places)
 
 pub grade-is : (s places : List ℕ) (l : List Field) → gradedFrom s places ungraded 0 (map codeOf l) .grade ≡ gravest 0 0 l (cellsAt l s places)
@@ -54,17 +54,27 @@ module _ (s places : List ℕ) where
   own-stored : (l : List ℕ) (g : Graded) (i : ℕ) → gradedFrom s places g i l .own ≡ stored (λ code. getD places (slotIn code) 0) (g .own) l
   unfolding gradedFrom
   own-stored [] g i = refl
-  own-stored (code ∷ l) g i = own-stored l (gradedBy i code (getD places (slotIn code) 0) (cellBy s places code) g) (suc i)
+  own-stored (code ∷ l) g i = own-stored l (gradedBy s i code (getD places (slotIn code) 0) (cellBy s places code) g) (suc i)
 
   words-stored : (l : List ℕ) (g : Graded) (i : ℕ) → gradedFrom s places g i l .words ≡ stored (λ code. wordIn (cellBy s places code)) (g .words) l
   unfolding gradedFrom
   words-stored [] g i = refl
-  words-stored (code ∷ l) g i = words-stored l (gradedBy i code (getD places (slotIn code) 0) (cellBy s places code) g) (suc i)
+  words-stored (code ∷ l) g i = words-stored l (gradedBy s i code (getD places (slotIn code) 0) (cellBy s places code) g) (suc i)
 
   figures-stored : (l : List ℕ) (g : Graded) (i : ℕ) → gradedFrom s places g i l .figures ≡ stored (λ code. figureIn (cellBy s places code)) (g .figures) l
   unfolding gradedFrom
   figures-stored [] g i = refl
-  figures-stored (code ∷ l) g i = figures-stored l (gradedBy i code (getD places (slotIn code) 0) (cellBy s places code) g) (suc i)
+  figures-stored (code ∷ l) g i = figures-stored l (gradedBy s i code (getD places (slotIn code) 0) (cellBy s places code) g) (suc i)
+
+  -- userData's room, field by field
+  abbrev pub userFrom : List ℕ → List ℕ → List ℕ
+  userFrom u [] = u
+  userFrom u (code ∷ l) = userFrom (userBy s code (getD places (slotIn code) 0) u) l
+
+  pub user-stored : (l : List ℕ) (g : Graded) (i : ℕ) → gradedFrom s places g i l .user ≡ userFrom (g .user) l
+  unfolding gradedFrom
+  user-stored [] g i = refl
+  user-stored (code ∷ l) g i = user-stored l (gradedBy s i code (getD places (slotIn code) 0) (cellBy s places code) g) (suc i)
 
   -- the lists keep their places
   pub own-length : (l : List ℕ) → length (gradedFrom s places ungraded 0 l .own) ≡ 64

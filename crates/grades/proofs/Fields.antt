@@ -1,21 +1,24 @@
 -- One field, read by its code: the cell settles its fault, its 64 bits and its real. Assumes nothing.
-use mathlib.Core.Path.{_≡_, refl, sym, ap, _∙_}
+use mathlib.Core.Path.{_≡_, refl, sym, ap, subst, _∙_}
 use mathlib.Core.Bool.{Bool, true, false, _&&_, not}
 use mathlib.Core.List.{List}
 use Prim.Native.Nat.{ℕ, _/_, _%_, _≤_}
-use lib.Dec.{eqb}
+use lib.Dec.{T, eqb, eqb→eq}
 use lib.Ieee.{Float}
 use lib.ListN.{length, getD}
 use borrow.Author.Tests.{eq-eqb, ne-eqb}
 use Rattle.octets.specs.Choice.{either}
+use Rattle.octets.proofs.Ranges.{both-left, both-right}
 use Rattle.field.specs.declared.Judged.{Judged}
-use Rattle.field.specs.Kind.{kindOf}
+use Rattle.field.specs.Kind.{Kind, kinds, kindIn as kindAmong, kindOf}
 use Rattle.field.specs.Cell.{Cell, stateOf, toldOf}
 use Rattle.field.specs.At.{cellAt}
+use Rattle.field.specs.Into.{readInto}
 use Rattle.message.specs.Record.{wordIn, figureIn}
 use Rattle.message.specs.Reading.{faultOf}
 use Rattle.grades.specs.declared.Held.{Held}
-use Rattle.grades.specs.Codes.{mustIn, kindIn}
+use Rattle.grades.specs.Codes.{slotIn, mustIn, kindIn}
+use Rattle.grades.specs.Graded.{userBy}
 use Rattle.grades.specs.Read.{heldBy}
 
 -- what a cell's told form says
@@ -63,16 +66,47 @@ fault-is false Cell.double = refl
 fault-is false Cell.bad = refl
 fault-is false (Cell.good v) = refl
 
-pub held : (s places : List ℕ) (code slot place p kind fault state word : ℕ) (figure : Float) → slot ≡ code % 64 → place ≡ getD places slot 0 → p ≡ place
-    → kind ≡ kindIn code → _≡_ {A = Judged} (record { state = state; word = word; figure = figure }) (toldOf (cellAt (kindOf kind) s p))
-    → fault ≡ faultBy state code → _≡_ {A = Held} (record { place = place; fault = fault; word = word; figure = figure }) (heldBy s places code)
-unfolding heldBy
-held s places code slot place p kind fault state word figure es ep eq ek ec ef =
-    let x = cellAt (kindOf kind) s p in
-    let t : state ≡ stateOf x = ap (λ (j : Judged). j .state) ec ∙ told-state x in
-    let e : fault ≡ faultOf (mustIn code) x = rw t at ef ∙ fault-is (mustIn code) x in
-    let w : word ≡ wordIn x = ap (λ (j : Judged). j .word) ec ∙ told-word x in
-    let g : figure ≡ figureIn x = ap (λ (j : Judged). j .figure) ec ∙ told-figure x in
-    cc
+-- a field of this place, with what its cell tells
+abbrev pub heldAs : ℕ → ℕ → Judged → Held
+heldAs code place c = record { place = place; fault = faultBy (c .state) code; word = c .word; figure = c .figure }
 
-pub ruleset fields = (sound, lacking, spared, other, held)
+pub held-as : (code place fault : ℕ) (c : Judged) → fault ≡ faultBy (c .state) code
+    → _≡_ {A = Held} (record { place = place; fault = fault; word = c .word; figure = c .figure }) (heldAs code place c)
+held-as code place fault c e = cc
+
+module _ (s places : List ℕ) (code slot place p kind : ℕ) (es : slot ≡ code % 64) (ep : place ≡ getD places slot 0) (eq : p ≡ place) (ek : kind ≡ kindIn code) (user : List ℕ) where
+  held-cell : (k : Kind) → k ≡ kindOf (kindIn code) → heldAs code place (toldOf (cellAt k s p)) ≡ heldBy s places code
+  unfolding heldBy
+  held-cell k e =
+      let x = cellAt k s p in
+      let f : faultBy (toldOf x .state) code ≡ faultOf (mustIn code) x = ap (λ (n : ℕ). faultBy n code) (told-state x) ∙ fault-is (mustIn code) x in
+      let w = told-word x in
+      let g = told-figure x in
+      cc
+
+  pub held : (c : Judged) (r : Held) → c ≡ toldOf (cellAt (kindOf kind) s p) → r ≡ heldAs code place c → r ≡ heldBy s places code
+  held c r ec er = er ∙ ap (heldAs code place) ec ∙ held-cell (kindOf kind) (ap kindOf ek)
+
+  -- userData's room
+  at-place : p ≡ getD places (slotIn code) 0
+  at-place = eq ∙ ep ∙ ap (λ (i : ℕ). getD places i 0) es
+
+  pub user-other : eqb kind 14 && eqb (length user) 245 ≡ false → user ≡ userBy s code (getD places (slotIn code) 0) user
+  unfolding userBy
+  user-other n = sym (simp (← ek, n))
+
+  module _ (t : eqb kind 14 && eqb (length user) 245 ≡ true) where
+    pub user-read : (after : List ℕ) → after ≡ readInto s p user → after ≡ userBy s code (getD places (slotIn code) 0) user
+    unfolding userBy
+    user-read after e = e ∙ ap (λ (q : ℕ). readInto s q user) at-place ∙ sym (simp (← ek, t))
+
+    pub held-user : (c : Judged) (r : Held) → c ≡ toldOf (cellAt (Kind.arrays 0 (length user)) s p) → r ≡ heldAs code place c → r ≡ heldBy s places code
+    unfolding kinds kindAmong
+    held-user c r ec er =
+        let u : T (eqb kind 14 && eqb (length user) 245) = subst T (sym t) tt in
+        let f : kind ≡ 14 = eqb→eq kind 14 (both-left (eqb kind 14) (eqb (length user) 245) u) in
+        let l : length user ≡ 245 = eqb→eq (length user) 245 (both-right (eqb kind 14) (eqb (length user) 245) u) in
+        let e : Kind.arrays 0 (length user) ≡ kindOf (kindIn code) = ap (Kind.arrays 0) l ∙ ap kindOf (sym f ∙ ek) in
+        er ∙ ap (heldAs code place) ec ∙ held-cell (Kind.arrays 0 (length user)) e
+
+pub ruleset fields = (sound, lacking, spared, other, held-as, held, user-other, user-read, held-user)

@@ -1,10 +1,13 @@
 // One field of a list, read by its code.
 use crate::Held;
+use field::Judged;
 ghost use mathlib.Core.Path.{_≡_};
 ghost use mathlib.Core.Bool.{_&&_, not};
 ghost use lib.Dec.{eqb};
+ghost use lib.ListN.{getD};
 ghost use Rattle.octets.specs.Choice.{either};
-ghost use Rattle.grades.specs.Codes.{mustIn, kindIn};
+ghost use Rattle.grades.specs.Codes.{slotIn, mustIn, kindIn};
+ghost use Rattle.grades.specs.Graded.{userBy};
 ghost use Rattle.grades.specs.Read.{heldBy};
 
 pub fn wide(x: u16) -> usize
@@ -34,12 +37,22 @@ fn fault_of(code: u16, state: u8) -> u8
     }
 }
 
-// What a coded field holds.
-pub fn held_by(s: &[u8], places: &[u16; 64], code: u16) -> Held
-    ensures { λ r. ⌜ r ≡ heldBy (now (s .entry)) (now (places .entry)) code ⌝ }
+// What a coded field holds; userData's bytes are read along with its value.
+pub fn held_by(s: &[u8], places: &[u16; 64], code: u16, user: &mut [u8]) -> Held
+    ensures held { λ r. ⌜ r ≡ heldBy (now (s .entry)) (now (places .entry)) code ⌝ }
+    ensures user { λ _. ⌜ now (user .exit) ≡ userBy (now (s .entry)) code (getD (now (places .entry)) (slotIn code) 0) (now (user .entry)) ⌝ }
 {
     let place = places[wide(code % 64)];
-    let cell = field::cell_at(s, wide(place), kind_of(code));
+    let kind = kind_of(code);
+    if (kind == 14) & (user.len() == 245) {
+        return held(place, code, field::octets_read(s, wide(place), user));
+    }
+    held(place, code, field::cell_at(s, wide(place), kind))
+}
+
+fn held(place: u16, code: u16, cell: Judged) -> Held
+    ensures { λ r. ⌜ r ≡ record { place = place; fault = either (eqb (cell .state) 2 && not (mustIn code)) (λ _. 0) (λ _. cell .state); word = cell .word; figure = cell .figure } ⌝ }
+{
     Held {
         place: place,
         fault: fault_of(code, cell.state),

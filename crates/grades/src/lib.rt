@@ -89,7 +89,7 @@ fn graver(a: u16, b: u16) -> u16
 }
 
 // The gravest fault of a list's fields, with its field's place in the list; and by slot, for these fields alone: where the value stands,
-// its 64 bits, its real. A list has at most seventeen.
+// its 64 bits, its real; userData's bytes go into a room of 245. A list has at most seventeen.
 pub fn grade(
     s: &[u8],
     places: &[u16; 64],
@@ -97,8 +97,9 @@ pub fn grade(
     own: &mut [u16; 64],
     words: &mut [u64; 64],
     figures: &mut [f64; 64],
+    user: &mut [u8],
 ) -> u16
-    ensures { λ r. ⌜ _≡_ {A = Graded} (record { grade = r; own = now (own .exit); words = now (words .exit); figures = now (figures .exit) }) (gradedFrom (now (s .entry)) (now (places .entry)) (record { grade = 0; own = now (own .entry); words = now (words .entry); figures = now (figures .entry) }) 0 (take (list .len) (list .codes))) ⌝ }
+    ensures { λ r. ⌜ _≡_ {A = Graded} (record { grade = r; own = now (own .exit); words = now (words .exit); figures = now (figures .exit); user = now (user .exit) }) (gradedFrom (now (s .entry)) (now (places .entry)) (record { grade = 0; own = now (own .entry); words = now (words .entry); figures = now (figures .entry); user = now (user .entry) }) 0 (take (list .len) (list .codes))) ⌝ }
 {
     let codes = list.codes;
     let end = few(list.len);
@@ -107,7 +108,7 @@ pub fn grade(
     while i < end {
         let code = codes[i];
         let slot = cell::wide(code % 64);
-        let field = cell::held_by(s, places, code);
+        let field = cell::held_by(s, places, code, user);
         worst = graver(worst, grade_of(field.fault, i));
         own[slot] = field.place;
         words[slot] = field.word;

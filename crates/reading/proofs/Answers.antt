@@ -97,12 +97,12 @@ module _ (s : List ℕ) (p : ℕ) (x : Step) (b : Begun) where
     begun-named k l ek e = e ∙ ap (λ (y : ℕ). namedBy y c) ek ∙ sym (rw h (simp (le-ltb a (length s) l)))
 
 -- what is left of the values
-module _ {A : Type 0} (good : Bool) (a : List A) (z : A) where
-  pub kept-all : good ≡ true → a ≡ keptBy good a z
+module _ {A : Type 0} (good : Bool) (n : ℕ) (a : List A) (z : A) where
+  pub kept-all : good ≡ true → a ≡ keptBy good n a z
   unfolding keptBy
   kept-all h = sym (simp h)
 
-  pub kept-none : good ≡ false → replicate 64 z ≡ keptBy good a z
+  pub kept-none : good ≡ false → replicate n z ≡ keptBy good n a z
   unfolding keptBy
   kept-none h = sym (simp h)
 
@@ -164,7 +164,7 @@ module _ (s places : List ℕ) (c : ℕ) where
 
 -- a payload that stands as b says, what its list gives, g, and its gravest fault, w
 module _ (s places : List ℕ) (b : Begun) (l : FieldList) (el : l ≡ listedBy (b .known) (b .command)) (g : Graded)
-    (eg : g ≡ gradedFrom s places (record { grade = 0; own = replicate 64 0; words = replicate 64 0; figures = replicate 64 zero64 }) 0 (take (l .len) (l .codes))) (x w : ℕ) (ex : x ≡ crossedBy (getD (g .words) 46 0) (getD (g .words) 45 0))
+    (eg : g ≡ gradedFrom s places (record { grade = 0; own = replicate 64 0; words = replicate 64 0; figures = replicate 64 zero64; user = replicate 245 0 }) 0 (take (l .len) (l .codes))) (x w : ℕ) (ex : x ≡ crossedBy (getD (g .words) 46 0) (getD (g .words) 45 0))
     (ew : w ≡ max (g .grade) x) where
   module _ (k : b .known ≡ true) where
     is-graded : g ≡ G s places (b .command)
@@ -182,50 +182,53 @@ module _ (s places : List ℕ) (b : Begun) (l : FieldList) (el : l ≡ listedBy 
         ap (byWorst s places (b .command) (b .count)) (e ∙ worst-is s places (b .command)) ∙ sym (simp k)
 
   -- the one way out
-  module _ (own words : List ℕ) (figures : List Float) (eo : own ≡ keptBy (b .known && eqb w 0) (g .own) 0) (es : words ≡ keptBy (b .known && eqb w 0) (g .words) 0)
-      (ef : figures ≡ keptBy (b .known && eqb w 0) (g .figures) zero64) where
-    -- the values are gone
-    zeros-told : b .known && eqb w 0 ≡ false → (n p : ℕ) → toldBy s own words figures (record { refusal = n; place = p; count = 0; command = 0 }) ≡ refusedAt n p
+  module _ (own words : List ℕ) (figures : List Float) (user : List ℕ) (eo : own ≡ keptBy (b .known && eqb w 0) 64 (g .own) 0) (es : words ≡ keptBy (b .known && eqb w 0) 64 (g .words) 0)
+      (ef : figures ≡ keptBy (b .known && eqb w 0) 64 (g .figures) zero64) (eu : user ≡ keptBy (b .known && eqb w 0) 245 (g .user) 0) where
+    -- the values stay or are gone, all together
+    built-from : (o v : List ℕ) (f : List Float) (u : List ℕ) → own ≡ o → words ≡ v → figures ≡ f → user ≡ u → (c : ℕ) → builtOf s own words figures user c ≡ builtOf s o v f u c
+    built-from o v f u p q r y c = cc
+
+    zeros-told : b .known && eqb w 0 ≡ false → (n p : ℕ) → toldBy s own words figures user (record { refusal = n; place = p; count = 0; command = 0 }) ≡ refusedAt n p
     zeros-told d n p =
-        let m : builtOf s own words figures 0 ≡ blank =
-        ap (λ (y : List ℕ). builtOf s y words figures 0) (eo ∙ sym (kept-none (b .known && eqb w 0) (g .own) 0 d))
-        ∙ ap (λ (y : List ℕ). builtOf s (replicate 64 0) y figures 0) (es ∙ sym (kept-none (b .known && eqb w 0) (g .words) 0 d))
-        ∙ ap (λ (y : List Float). builtOf s (replicate 64 0) (replicate 64 0) y 0) (ef ∙ sym (kept-none (b .known && eqb w 0) (g .figures) zero64 d))
+        let m : builtOf s own words figures user 0 ≡ blank =
+        built-from (replicate 64 0) (replicate 64 0) (replicate 64 zero64) (replicate 245 0) (eo ∙ sym (kept-none (b .known && eqb w 0) 64 (g .own) 0 d))
+        (es ∙ sym (kept-none (b .known && eqb w 0) 64 (g .words) 0 d)) (ef ∙ sym (kept-none (b .known && eqb w 0) 64 (g .figures) zero64 d))
+        (eu ∙ sym (kept-none (b .known && eqb w 0) 245 (g .user) 0 d)) 0
         ∙ built-blank s in
         ap (λ (y : Message). record { refusal = n; place = p; count = 0; message = y }) m
 
-    told-before : b .known ≡ false → toldBy s own words figures (formBy b w) ≡ answered s places b
+    told-before : b .known ≡ false → toldBy s own words figures user (formBy b w) ≡ answered s places b
     unfolding answered formBy
     told-before k =
         let e : formBy b w ≡ record { refusal = b .refusal; place = b .place; count = 0; command = 0 } = simp k in
-        ap (toldBy s own words figures) e ∙ zeros-told (simp k) (b .refusal) (b .place) ∙ sym (simp k)
+        ap (toldBy s own words figures user) e ∙ zeros-told (simp k) (b .refusal) (b .place) ∙ sym (simp k)
 
-    told-fault : b .known ≡ true → (w ≡ 0 → ⊥) → toldBy s own words figures (formBy b w) ≡ answered s places b
+    told-fault : b .known ≡ true → (w ≡ 0 → ⊥) → toldBy s own words figures user (formBy b w) ≡ answered s places b
     unfolding formBy
     told-fault k z =
         let e : formBy b w ≡ record { refusal = 16 - w / 64; place = 0; count = 0; command = 0 } = simp (k, ne-eqb w 0 z) in
-        ap (toldBy s own words figures) e ∙ zeros-told (simp (k, ne-eqb w 0 z)) (16 - w / 64) 0 ∙ (simp (ne-eqb w 0 z) at (by-fields k))
+        ap (toldBy s own words figures user) e ∙ zeros-told (simp (k, ne-eqb w 0 z)) (16 - w / 64) 0 ∙ (simp (ne-eqb w 0 z) at (by-fields k))
 
-    told-read : b .known ≡ true → w ≡ 0 → toldBy s own words figures (formBy b w) ≡ answered s places b
+    told-read : b .known ≡ true → w ≡ 0 → toldBy s own words figures user (formBy b w) ≡ answered s places b
     unfolding formBy
     told-read k v =
         let c = b .command in
         let d : b .known && eqb w 0 ≡ true = simp (k, eq-eqb w 0 v) in
         let q : G s places c .grade ≡ 0 = omega (arith, ap (λ (y : Graded). y .grade) (is-graded k)) in
-        let m : builtOf s own words figures c ≡ messageOf c (lookAt s places c) =
-        ap (λ (y : List ℕ). builtOf s y words figures c) (eo ∙ sym (kept-all (b .known && eqb w 0) (g .own) 0 d))
-        ∙ ap (λ (y : List ℕ). builtOf s (g .own) y figures c) (es ∙ sym (kept-all (b .known && eqb w 0) (g .words) 0 d))
-        ∙ ap (λ (y : List Float). builtOf s (g .own) (g .words) y c) (ef ∙ sym (kept-all (b .known && eqb w 0) (g .figures) zero64 d))
-        ∙ ap (λ (y : Graded). builtOf s (y .own) (y .words) (y .figures) c) (is-graded k)
-        ∙ built-is s (G s places c .own) (G s places c .words) (G s places c .figures) (lookAt s places c) (filled s places c q) c in
+        let m : builtOf s own words figures user c ≡ messageOf c (lookAt s places c) =
+        built-from (g .own) (g .words) (g .figures) (g .user) (eo ∙ sym (kept-all (b .known && eqb w 0) 64 (g .own) 0 d))
+        (es ∙ sym (kept-all (b .known && eqb w 0) 64 (g .words) 0 d)) (ef ∙ sym (kept-all (b .known && eqb w 0) 64 (g .figures) zero64 d))
+        (eu ∙ sym (kept-all (b .known && eqb w 0) 245 (g .user) 0 d)) c
+        ∙ ap (λ (y : Graded). builtOf s (y .own) (y .words) (y .figures) (y .user) c) (is-graded k)
+        ∙ built-is s (G s places c .own) (G s places c .words) (G s places c .figures) (G s places c .user) (lookAt s places c) (filled s places c q) c in
         let e : formBy b w ≡ record { refusal = 0; place = 0; count = b .count; command = c } = simp (k, eq-eqb w 0 v) in
-        ap (toldBy s own words figures) e
+        ap (toldBy s own words figures user) e
         ∙ ap (λ (y : Message). record { refusal = 0; place = 0; count = b .count; message = y }) m ∙ (rw v at (by-fields k))
 
-    pub told-answer : (f : Form) (r : Told) → f ≡ formBy b w → r ≡ toldBy s own words figures f → r ≡ answered s places b
-    told-answer f r ef e = e ∙ ap (toldBy s own words figures) ef ∙ go (b .known) (eqb w 0) refl refl
+    pub told-answer : (f : Form) (r : Told) → f ≡ formBy b w → r ≡ toldBy s own words figures user f → r ≡ answered s places b
+    told-answer f r ef e = e ∙ ap (toldBy s own words figures user) ef ∙ go (b .known) (eqb w 0) refl refl
       where
-        go : (i j : Bool) → b .known ≡ i → eqb w 0 ≡ j → toldBy s own words figures (formBy b w) ≡ answered s places b
+        go : (i j : Bool) → b .known ≡ i → eqb w 0 ≡ j → toldBy s own words figures user (formBy b w) ≡ answered s places b
         go false j p q = told-before p
         go true true p q = told-read p (eqb-true w 0 q)
         go true false p q = told-fault p (eqb-false w 0 q)

@@ -30,6 +30,7 @@ use Rattle.records.specs.Built.{builtOf}
 use Rattle.records.proofs.Filled.{kindFor, agreed, kinds-of, Kept, Filled, kept-cell}
 use Rattle.records.proofs.Same.{built-is}
 use Rattle.reading.proofs.Across.{lookAt}
+use Rattle.reading.proofs.User.{user-filled}
 
 -- what stands in a list does not depend on what is taken past its end
 any-default : {A : Type 0} (l : List A) (k : ℕ) (x y : A) → k < length l → getD l k x ≡ getD l k y
@@ -65,7 +66,7 @@ module _ (s places : List ℕ) (c : ℕ) where
   abbrev filledBy : Type 0
   filledBy =
       Filled s (gradedFrom s places ungraded 0 (map codeOf (fieldsOf c)) .own) (gradedFrom s places ungraded 0 (map codeOf (fieldsOf c)) .words)
-      (gradedFrom s places ungraded 0 (map codeOf (fieldsOf c)) .figures) (lookAt s places c)
+      (gradedFrom s places ungraded 0 (map codeOf (fieldsOf c)) .figures) (gradedFrom s places ungraded 0 (map codeOf (fieldsOf c)) .user) (lookAt s places c)
 
   pub filled : gradedFrom s places ungraded 0 (map codeOf (fieldsOf c)) .grade ≡ 0 → filledBy
   filled e = record {
@@ -73,6 +74,7 @@ module _ (s places : List ℕ) (c : ℕ) where
     figure-is = λ k h.
         any-default (gradedFrom s places ungraded 0 (map codeOf (fieldsOf c)) .figures) k nan zero64 (omega (arith, figures-length s places (map codeOf (fieldsOf c))))
         ∙ (rw (slot-key k h) at (figures-is s places (fieldsOf c) (known-fields c) (nameAt keys k)));
+    user-is = user-filled s places c e;
     kept = λ k h.
         subst (λ (p : ℕ). Kept s (kindOf (kindFor (nameAt keys k))) p (lookAt s places c (nameAt keys k)))
         (sym (rw (slot-key k h) at (own-last-is s places (fieldsOf c) (known-fields c) (nameAt keys k))))
@@ -80,12 +82,13 @@ module _ (s places : List ℕ) (c : ℕ) where
   }
 
 -- no field at all
-nothing-filled : (s : List ℕ) → Filled s (replicate 64 0) (replicate 64 0) (replicate 64 zero64) (λ k. Cell.missing)
+nothing-filled : (s : List ℕ) → Filled s (replicate 64 0) (replicate 64 0) (replicate 64 zero64) (replicate 245 0) (λ k. Cell.missing)
 nothing-filled s = record {
   word-is = λ k h. getD-replicate {A = ℕ} 64 k 0 0 (omega arith);
   figure-is = λ k h. getD-replicate 64 k zero64 nan (omega arith);
+  user-is = refl;
   kept = λ k h. rw (getD-replicate {A = ℕ} 64 k 0 0 (omega arith)) Kept.nowhere;
 }
 
-pub built-blank : (s : List ℕ) → builtOf s (replicate 64 0) (replicate 64 0) (replicate 64 zero64) 0 ≡ blank
-built-blank s = built-is s (replicate 64 0) (replicate 64 0) (replicate 64 zero64) (λ k. Cell.missing) (nothing-filled s) 0
+pub built-blank : (s : List ℕ) → builtOf s (replicate 64 0) (replicate 64 0) (replicate 64 zero64) (replicate 245 0) 0 ≡ blank
+built-blank s = built-is s (replicate 64 0) (replicate 64 0) (replicate 64 zero64) (replicate 245 0) (λ k. Cell.missing) (nothing-filled s) 0

@@ -1,4 +1,5 @@
 pub mod Across
+pub mod User
 pub mod Filling
 pub mod Answers
 pub mod Settled

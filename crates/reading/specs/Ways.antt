@@ -41,8 +41,8 @@ begunBy s p (Broken n q) = refused n q
 begunBy s p (Next at count) = either (ltb at (length s)) (λ _. refused 10 at) (λ _. namedBy (commandAt s p) count)
 
 -- a payload that is refused leaves no value
-unfoldable pub keptBy : {A : Type 0} → Bool → List A → A → List A
-keptBy good a z = either good (λ _. a) (λ _. replicate 64 z)
+unfoldable pub keptBy : {A : Type 0} → Bool → ℕ → List A → A → List A
+keptBy good n a z = either good (λ _. a) (λ _. replicate n z)
 
 -- what is told beside the fields, by their gravest fault
 unfoldable pub formBy : Begun → ℕ → Form

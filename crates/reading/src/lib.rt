@@ -112,23 +112,40 @@ fn answer(s: &[u8], places: &[u16; 64], begun: Begun) -> Told
     let mut own = [0u16; 64];
     let mut words = [0u64; 64];
     let mut figures = [0.0f64; 64];
+    let mut user = [0u8; 245];
     let list = listed(begun.known, begun.command);
-    let grade = grades::grade(s, places, list, &mut own, &mut words, &mut figures);
+    let grade = grades::grade(
+        s,
+        places,
+        list,
+        &mut own,
+        &mut words,
+        &mut figures,
+        &mut user,
+    );
     let worst = graver(grade, crossed(words[46], words[45]));
     clear(
         begun.known & (worst == 0),
         &mut own,
         &mut words,
         &mut figures,
+        &mut user,
     );
-    records::build(s, form_of(begun, worst), &own, &words, &figures)
+    records::build(s, form_of(begun, worst), &own, &words, &figures, &user)
 }
 
 // A payload that is refused leaves no value.
-fn clear(good: bool, own: &mut [u16; 64], words: &mut [u64; 64], figures: &mut [f64; 64])
-    ensures own { λ _. ⌜ now (own .exit) ≡ keptBy good (now (own .entry)) 0 ⌝ }
-    ensures words { λ _. ⌜ now (words .exit) ≡ keptBy good (now (words .entry)) 0 ⌝ }
-    ensures figures { λ _. ⌜ now (figures .exit) ≡ keptBy good (now (figures .entry)) zero64 ⌝ }
+fn clear(
+    good: bool,
+    own: &mut [u16; 64],
+    words: &mut [u64; 64],
+    figures: &mut [f64; 64],
+    user: &mut [u8; 245],
+)
+    ensures own { λ _. ⌜ now (own .exit) ≡ keptBy good 64 (now (own .entry)) 0 ⌝ }
+    ensures words { λ _. ⌜ now (words .exit) ≡ keptBy good 64 (now (words .entry)) 0 ⌝ }
+    ensures figures { λ _. ⌜ now (figures .exit) ≡ keptBy good 64 (now (figures .entry)) zero64 ⌝ }
+    ensures user { λ _. ⌜ now (user .exit) ≡ keptBy good 245 (now (user .entry)) 0 ⌝ }
 {
     if good {
         return;
@@ -136,6 +153,7 @@ fn clear(good: bool, own: &mut [u16; 64], words: &mut [u64; 64], figures: &mut [
     *own = [0u16; 64];
     *words = [0u64; 64];
     *figures = [0.0f64; 64];
+    *user = [0u8; 245];
 }
 
 // What is told beside the fields, by their gravest fault: 13, 14 or 15 have no place.

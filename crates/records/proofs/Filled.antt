@@ -1,5 +1,5 @@
 -- What the slots of a command hold: for each key its place, its 64 bits and its real, as its cell says.
--- `Filled s own words figures look` is what `build` is to be called with for its result to be the record of `look` (proofs/Same).
+-- `Filled s own words figures user look` is what `build` is to be called with for its result to be the record of `look` (proofs/Same).
 -- Its use: `look` is any function from a key to its cell, as `lookIn Cell.missing l cs` for the cells cs of a list l of document 01.
 -- Each slot k below 49 gets of the key's cell its word and its real; its place where the cell is good, and 0 where the key is missing.
 -- `kept-cell` gives `kept` of a field without fault; `kinds-of` says that a key has one kind, `kindFor`, in all lists.
@@ -21,7 +21,7 @@ use Rattle.field.specs.Judge.{judge}
 use Rattle.field.specs.Cell.{Cell, judged}
 use Rattle.field.specs.At.{shallowAt, cellAt}
 use Rattle.message.specs.Fields.{Field, headed, lists, listIn, fieldsOf, table}
-use Rattle.message.specs.Record.{wordIn, figureIn}
+use Rattle.message.specs.Record.{wordIn, figureIn, stringIn}
 use Rattle.message.specs.Reading.{faultOf}
 
 -- the number of the kind that a list gives a key; that of a map where it has none
@@ -61,9 +61,10 @@ pub data Kept (s : List ℕ) (k : Kind) : ℕ → Cell → Type 0 where
   nowhere : Kept s k 0 Cell.missing
   somewhere : (p : ℕ) (v : Value) → 2 ≤ p → judge k (shallowAt s p) ≡ some v → Kept s k p (Cell.good v)
 
-pub record Filled (s own words : List ℕ) (figures : List Float) (look : List ℕ → Cell) : Type 0 where
+pub record Filled (s own words : List ℕ) (figures : List Float) (user : List ℕ) (look : List ℕ → Cell) : Type 0 where
   pub word-is : (k : ℕ) → k < 49 → getD words k 0 ≡ wordIn (look (nameAt keys k))
   pub figure-is : (k : ℕ) → k < 49 → getD figures k nan ≡ figureIn (look (nameAt keys k))
+  pub user-is : user ≡ stringIn 245 (look (bytes "userData"))
   pub kept : (k : ℕ) → k < 49 → Kept s (kindOf (kindFor (nameAt keys k))) (getD own k 0) (look (nameAt keys k))
 
 -- a field without fault is kept, where it stands

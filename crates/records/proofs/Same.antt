@@ -27,7 +27,7 @@ use Rattle.records.proofs.Filled.{kindFor, Kept, Filled}
 use Rattle.records.proofs.Words.{Most, signed-kept, mark-kept, there-kept, low-kept, major-kept}
 use Rattle.records.proofs.Strings.{Room, string-kept, position-kept}
 
-module _ (s own words : List ℕ) (figures : List Float) (look : List ℕ → Cell) (F : Filled s own words figures look) where
+module _ (s own words : List ℕ) (figures : List Float) (user : List ℕ) (look : List ℕ → Cell) (F : Filled s own words figures user look) where
   abbrev cell : ℕ → Cell
   cell k = look (nameAt keys k)
 
@@ -78,7 +78,7 @@ module _ (s own words : List ℕ) (figures : List Float) (look : List ℕ → Ce
     id32 : kindAt k ≡ Kind.wholes (2 ^ 31) (2 ^ 31 - 1) → signedOf 32 (getD words k 0) ≡ idIn (cell k)
     id32 = signed 32 (2 ^ 32 - 1) refl refl (2 ^ 31) (2 ^ 31 - 1) tt tt
 
-  pub built-is : (c : ℕ) → builtOf s own words figures c ≡ messageOf c look
+  pub built-is : (c : ℕ) → builtOf s own words figures user c ≡ messageOf c look
   unfolding builtOf messageOf keys nameAt kindFor lists kinds kindIn
   built-is c = λ i. record {
     command = c;
@@ -123,7 +123,7 @@ module _ (s own words : List ℕ) (figures : List Float) (look : List ℕ → Ce
     «wide_carr_off» = mark 41 tt refl i;
     «long_blk_dist» = mark 42 tt refl i;
     «user_len» = low 43 tt 8 245 (Most.octets 0 245) tt i;
-    «user_data» = string 43 tt (Kind.arrays 0 245) 245 (Room.octets 0 245 245 (lit≤ tt)) i;
+    «user_data» = F .user-is i;
     format = low 44 tt 8 0xFF (Most.whole 0xFF) tt i;
     «dl_open» = mark 45 tt refl i;
     «response_exp» = mark 46 tt refl i;

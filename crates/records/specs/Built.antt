@@ -30,8 +30,8 @@ signedOf bits w = either (ltb (w % 2 ^ bits) (2 ^ (bits - 1))) (λ _. pos (w % 2
 unfoldable pub foundAt : List ℕ → Kind → ℕ → Option Value
 foundAt s k p = either (ltb 0 p) (λ _. judge k (shallowAt s p)) (λ _. none)
 
--- what was found of the command's own fields, by slot: places, 64 bits, reals
-module _ (s own words : List ℕ) (figures : List Float) where
+-- what was found of the command's own fields, by slot: places, 64 bits, reals; and userData's bytes
+module _ (s own words : List ℕ) (figures : List Float) (user : List ℕ) where
   abbrev pub there : ℕ → Bool
   there i = ltb 0 (getD own i 0)
 
@@ -104,7 +104,7 @@ module _ (s own words : List ℕ) (figures : List Float) where
     «wide_carr_off» = markAt 41;
     «long_blk_dist» = markAt 42;
     «user_len» = wordAt 43 % 2 ^ 8;
-    «user_data» = bytesAt 245 43;
+    «user_data» = user;
     format = wordAt 44 % 2 ^ 8;
     «dl_open» = markAt 45;
     «response_exp» = markAt 46;

@@ -16,7 +16,6 @@ use part::signed32;
 use part::signed64;
 use part::text16;
 use part::text64;
-use part::user;
 ghost use mathlib.Core.Path.{_≡_};
 ghost use Rattle.records.specs.Built.{toldBy};
 
@@ -28,15 +27,16 @@ pub struct Form {
     pub command: u8,
 }
 
-// What is told of a payload. By slot: each field's place in s, 0 where it is absent; its 64 bits; its real.
+// What is told of a payload. By slot: each field's place in s, 0 where it is absent; its 64 bits; its real. And userData's bytes.
 pub fn build<'a>(
     s: &[u8],
     form: Form,
     own: &'a [u16; 64],
     words: &'a [u64; 64],
     figures: &'a [f64; 64],
+    user: &'a [u8; 245],
 ) -> Told
-    ensures { λ r. ⌜ r ≡ toldBy (now (s .entry)) (now (own .entry)) (now (words .entry)) (now (figures .entry)) form ⌝ }
+    ensures { λ r. ⌜ r ≡ toldBy (now (s .entry)) (now (own .entry)) (now (words .entry)) (now (figures .entry)) (now (user .entry)) form ⌝ }
 {
     Told {
         refusal: form.refusal,
@@ -114,7 +114,7 @@ pub fn build<'a>(
             wide_carr_off: words[41] == 1,
             long_blk_dist: words[42] == 1,
             user_len: (words[43] % 0x100) as u8,
-            user_data: user(s, own[43]),
+            user_data: *user,
             format: (words[44] % 0x100) as u8,
             dl_open: words[45] == 1,
             response_exp: words[46] == 1,

@@ -53,16 +53,6 @@ pub fn bytes16(s: &[u8], p: u16) -> [u8; 16]
     a
 }
 
-pub fn user(s: &[u8], p: u16) -> [u8; 245]
-    ensures { λ r. ⌜ r ≡ filled (foundAt (now (s .entry)) (Kind.arrays 0 245) p) (replicate 245 0) ⌝ }
-{
-    let mut a = [0u8; 245];
-    if 0 < p {
-        octets_into(s, p as usize, &mut a);
-    }
-    a
-}
-
 // The same for a text.
 pub fn text16(s: &[u8], p: u16) -> [u8; 16]
     ensures { λ r. ⌜ r ≡ filled (foundAt (now (s .entry)) (Kind.texts 0 16) p) (replicate 16 0) ⌝ }

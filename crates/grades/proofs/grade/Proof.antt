@@ -14,78 +14,86 @@ use Rattle.grades.proofs.grade_of.Reads as grade-of-reads
 use Rattle.grades.proofs.graver.Reads as graver-reads
 
 abbrev Inv-loop : tie.InvT-loop
-Inv-loop s places own₀ words₀ figures₀ codes end worst₀ i₀ own words figures worst i = Going s places codes (record { grade = 0; own = own₀; words = words₀; figures = figures₀ }) end i worst own words figures
+Inv-loop s places own₀ words₀ figures₀ user₀ codes end worst₀ i₀ own words figures user worst i = Going s places codes (record { grade = 0; own = own₀; words = words₀; figures = figures₀; user = user₀ }) end i worst own words figures user
 
 abbrev μ-loop : tie.MeasureT-loop
-μ-loop s places own₀ words₀ figures₀ codes end worst₀ i₀ own words figures worst i = end - i
+μ-loop s places own₀ words₀ figures₀ user₀ codes end worst₀ i₀ own words figures user worst i = end - i
 
--- src/lib.rt:104:9
+-- src/lib.rt:105:9
 few-requires : tie.Need-few-requires Inv-loop μ-loop
 few-requires c κs = search needs
 
--- src/lib.rt:107:5
+-- src/lib.rt:108:5
 loop-holds : tie.Need-loop-holds Inv-loop μ-loop
 loop-holds c = search (turns, needs)
 
--- src/lib.rt:108:20
+-- src/lib.rt:109:20
 mul-code : tie.Need-mul-code Inv-loop μ-loop
 mul-code c = search needs
 
--- src/lib.rt:108:20
+-- src/lib.rt:109:20
 array-read-code : tie.Need-array-read-code Inv-loop μ-loop
 array-read-code c = search needs
 
--- src/lib.rt:109:13
+-- src/lib.rt:110:13
 wide-requires : tie.Need-wide-requires Inv-loop μ-loop
 wide-requires c κs = search needs
 
--- src/lib.rt:110:13
+-- src/lib.rt:111:13
 held-by-requires : tie.Need-held-by-requires Inv-loop μ-loop
 held-by-requires c κs = search needs
 
--- src/lib.rt:111:31
+-- src/lib.rt:112:31
 grade-of-requires : tie.Need-grade-of-requires Inv-loop μ-loop
 grade-of-requires c κs = search needs
 
--- src/lib.rt:111:9
+-- src/lib.rt:112:9
 graver-requires : tie.Need-graver-requires Inv-loop μ-loop
 graver-requires c κs = search needs
 
--- src/lib.rt:112:9
+-- src/lib.rt:113:9
 mul-own : tie.Need-mul-own Inv-loop μ-loop
 mul-own c = search needs
 
--- src/lib.rt:112:9
+-- src/lib.rt:113:9
 element-write-own : tie.Need-element-write-own Inv-loop μ-loop
 element-write-own c = search needs
 
--- src/lib.rt:113:9
+-- src/lib.rt:114:9
 mul-words : tie.Need-mul-words Inv-loop μ-loop
 mul-words c = search needs
 
--- src/lib.rt:113:9
+-- src/lib.rt:114:9
 element-write-words : tie.Need-element-write-words Inv-loop μ-loop
 element-write-words c = search needs
 
--- src/lib.rt:114:9
+-- src/lib.rt:115:9
 mul-figures : tie.Need-mul-figures Inv-loop μ-loop
 mul-figures c = search needs
 
--- src/lib.rt:114:9
+-- src/lib.rt:115:9
 element-write-figures : tie.Need-element-write-figures Inv-loop μ-loop
 element-write-figures c = search needs
 
--- src/lib.rt:115:9
+-- src/lib.rt:116:9
 add-i : tie.Need-add-i Inv-loop μ-loop
 add-i c = search needs
 
--- src/lib.rt:107:5
+-- src/lib.rt:108:5
 loop-less : tie.Need-loop-less Inv-loop μ-loop
 loop-less c = search needs
 
--- src/lib.rt:107:5
+-- src/lib.rt:108:5
 loop-again : tie.Need-loop-again Inv-loop μ-loop
-loop-again c = search (turns, needs)
+loop-again c =
+    let h = c .before .before .before .before in
+    let w = h .before .before in
+    let l = w .before in
+    turn (l .loop-test .taken) (w .wide .ensures) (h .held-by .ensures .0) (h .held-by .ensures .1) (c .before .grade-of .ensures) (c .graver .ensures) (l .before .loop .inv)
+
+-- src/lib.rt:93:1
+same-length : tie.Need-same-length Inv-loop μ-loop
+same-length c = search needs
 
 -- src/lib.rt:93:1
 returns : tie.Need-returns Inv-loop μ-loop
@@ -114,4 +122,5 @@ grade-spec =
     add-i
     loop-less
     loop-again
+    same-length
     returns)

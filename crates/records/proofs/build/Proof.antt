@@ -10,8 +10,7 @@ use Rattle.records.proofs.build.Tie as tie
 returns : tie.Need-returns
 unfolding builtOf
 returns c =
-    let at-user-data = c .before .before .before .before in
-    let at-nwk-sn-key = at-user-data .before .before .before .before .before .before .before .before .before in
+    let at-nwk-sn-key = c .before .before .before .before .before .before .before .before .before .before .before .before in
     let at-sign = at-nwk-sn-key .before .before in
     let at-profile = at-sign .before .before in
     let at-message = at-profile .before .before .before .before .before .before .before .before .before .before .before .before .before .before .before .before .before .before .before .before .before .before in
@@ -23,7 +22,7 @@ returns c =
     let at-geo-location = at-sn-bs-uuid .before .before in
     let at-op-id = at-geo-location .before .before .before .before .before .before .before .before .before in
     let a = at-op-id .before .before .before .args in
-    let m = builtOf (a .s .now) (a .own .now) (a .words .now) (a .figures .now) (a .form .command) in
+    let m = builtOf (a .s .now) (a .own .now) (a .words .now) (a .figures .now) (a .user .now) (a .form .command) in
     λ i. record {
       refusal = a .form .refusal;
       place = a .form .place;
@@ -66,7 +65,7 @@ returns c =
         «wide_carr_off» = m .«wide_carr_off»;
         «long_blk_dist» = m .«long_blk_dist»;
         «user_len» = m .«user_len»;
-        «user_data» = at-user-data .user .ensures i;
+        «user_data» = m .«user_data»;
         format = m .format;
         «dl_open» = m .«dl_open»;
         «response_exp» = m .«response_exp»;
@@ -148,8 +147,6 @@ build-spec =
     (λ c. search needs)
     (λ c. search needs)
     (λ c. search needs)
-    (λ c. search needs)
-    (λ c κs. search needs)
     (λ c. search needs)
     (λ c. search needs)
     (λ c. search needs)
