@@ -86,6 +86,16 @@ module _ {s places codes : List ℕ} {first : Graded} {end i worst : ℕ} {own w
         goes = rw (add-one, e) (rw d at (inv .goes));
       }
 
+-- a field without a fault
+pub turn-sound : {s places codes : List ℕ} {first : Graded} {end i worst : ℕ} {own words : List ℕ} {figures : List Float} {user after : List ℕ} {slot place fault word : ℕ} {figure : Float}
+    → i < end → slot ≡ getD codes i 0 % 64 → _≡_ {A = Held} (record { place = place; fault = fault; word = word; figure = figure }) (heldBy s places (getD codes i 0))
+    → after ≡ userBy s (getD codes i 0) (getD places (slotIn (getD codes i 0)) 0) user → fault ≤ 0 → Going s places codes first end i worst own words figures user
+    → Going s places codes first end (i + 1) worst (set own slot place) (set words slot word) (set figures slot figure) after
+turn-sound {i = i} {worst = worst} {fault = fault} hi es h eu hf inv =
+    let none : 0 ≡ graded fault i = none-graded fault i (omega arith) in
+    let still : worst ≡ max worst 0 = omega arith in
+    turn hi es h eu none still inv
+
 -- a list has seventeen codes, so a length over 17 counts as 17
 few-enough : (codes : List ℕ) (len end : ℕ) → end ≡ min len 17 → length codes ≡ 17 → take end codes ≡ take len codes
 few-enough codes len end e h = by (ltb 17 len) refl

@@ -109,11 +109,53 @@ pub fn grade(
         let code = codes[i];
         let slot = cell::wide(code % 64);
         let field = cell::held_by(s, places, code, user);
-        worst = graver(worst, grade_of(field.fault, i));
         own[slot] = field.place;
         words[slot] = field.word;
         figures[slot] = field.figure;
+        let at = i;
         i += 1;
+        if 0 < field.fault {
+            worst = graver(worst, grade_of(field.fault, at));
+        }
     }
     worst
+}
+
+// The same for the command with a number, each with its own list: a list that is chosen and handed on would be copied code by code.
+pub fn grade_command(
+    s: &[u8],
+    places: &[u16; 64],
+    command: u8,
+    own: &mut [u16; 64],
+    words: &mut [u64; 64],
+    figures: &mut [f64; 64],
+    user: &mut [u8],
+) -> u16
+    ensures { λ r. ⌜ _≡_ {A = Graded} (record { grade = r; own = now (own .exit); words = now (words .exit); figures = now (figures .exit); user = now (user .exit) }) (gradedFrom (now (s .entry)) (now (places .entry)) (record { grade = 0; own = now (own .entry); words = now (words .entry); figures = now (figures .entry); user = now (user .entry) }) 0 (take (listedOf command .len) (listedOf command .codes))) ⌝ }
+{
+    if command == 7 {
+        return grade(s, places, UL_DATA, own, words, figures, user);
+    }
+    if command == 0 {
+        return grade(s, places, CON, own, words, figures, user);
+    }
+    if command == 1 {
+        return grade(s, places, CON_RSP, own, words, figures, user);
+    }
+    if command == 2 {
+        return grade(s, places, STATUS_RSP, own, words, figures, user);
+    }
+    if command == 3 {
+        return grade(s, places, DET, own, words, figures, user);
+    }
+    if command == 4 {
+        return grade(s, places, DET_RSP, own, words, figures, user);
+    }
+    if command == 5 {
+        return grade(s, places, ATT_PRP, own, words, figures, user);
+    }
+    if command == 6 {
+        return grade(s, places, DET_PRP, own, words, figures, user);
+    }
+    grade(s, places, SHORT, own, words, figures, user)
 }

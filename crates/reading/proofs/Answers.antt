@@ -38,7 +38,7 @@ use Rattle.grades.proofs.Cells.{grade-is, words-is}
 use Rattle.records.specs.Built.{builtOf, toldBy}
 use Rattle.records.proofs.Same.{built-is}
 use Rattle.records.specs.declared.Form.{Form}
-use Rattle.reading.specs.Ways.{crossedBy, listedBy, refused, namedBy, begunBy, keptBy, formBy, answered}
+use Rattle.reading.specs.Ways.{crossedBy, gradedAs, refused, namedBy, begunBy, keptBy, formBy, answered}
 use Rattle.reading.specs.declared.Begun.{Begun}
 use Rattle.reading.specs.declared.Unframed.{Unframed}
 use Rattle.reading.specs.Framed.{MeantFramed}
@@ -58,14 +58,15 @@ pub crossed-shut : (e o : ℕ) → e ≡ 1 → (o ≡ 1 → ⊥) → 114 ≡ cro
 unfolding crossedBy
 crossed-shut e o h n = sym (simp (eq-eqb e 1 h, ne-eqb o 1 n))
 
--- the list
-pub listed-known : (l : FieldList) (b : Bool) (c : ℕ) → b ≡ true → l ≡ listedOf c → l ≡ listedBy b c
-unfolding listedBy
-listed-known l b c h e = e ∙ sym (simp h)
+-- the fields
+module _ (s places : List ℕ) (b : Begun) (first r : Graded) where
+  pub graded-known : b .known ≡ true → r ≡ gradedFrom s places first 0 (take (listedOf (b .command) .len) (listedOf (b .command) .codes)) → r ≡ gradedAs s places b first
+  unfolding gradedAs
+  graded-known h e = e ∙ sym (simp h)
 
-pub listed-none : (b : Bool) (c : ℕ) → b ≡ false → _≡_ {A = FieldList} (record { len = 0; codes = replicate 17 0 }) (listedBy b c)
-unfolding listedBy
-listed-none b c h = sym (simp h)
+pub graded-none : (s places : List ℕ) (b : Begun) (first : Graded) → b .known ≡ false → first ≡ gradedAs s places b first
+unfolding gradedAs
+graded-none s places b first h = sym (simp h)
 
 -- the command
 module _ (c n : ℕ) where
@@ -125,8 +126,8 @@ pub ruleset ways = (
   crossed-no,
   crossed-open,
   crossed-shut,
-  listed-known,
-  listed-none,
+  graded-known,
+  graded-none,
   named-known,
   named-other,
   named-none,
@@ -162,16 +163,14 @@ module _ (s places : List ℕ) (c : ℕ) where
   abbrev byWorst : ℕ → ℕ → Told
   byWorst n w = toldOf n (judged w (messageOf c (lookAt s places c)))
 
--- a payload that stands as b says, what its list gives, g, and its gravest fault, w
-module _ (s places : List ℕ) (b : Begun) (l : FieldList) (el : l ≡ listedBy (b .known) (b .command)) (g : Graded)
-    (eg : g ≡ gradedFrom s places (record { grade = 0; own = replicate 64 0; words = replicate 64 0; figures = replicate 64 zero64; user = replicate 245 0 }) 0 (take (l .len) (l .codes))) (x w : ℕ) (ex : x ≡ crossedBy (getD (g .words) 46 0) (getD (g .words) 45 0))
+-- a payload that stands as b says, what its fields give, g, and its gravest fault, w
+module _ (s places : List ℕ) (b : Begun) (g : Graded)
+    (eg : g ≡ gradedAs s places b (record { grade = 0; own = replicate 64 0; words = replicate 64 0; figures = replicate 64 zero64; user = replicate 245 0 })) (x w : ℕ) (ex : x ≡ crossedBy (getD (g .words) 46 0) (getD (g .words) 45 0))
     (ew : w ≡ max (g .grade) x) where
   module _ (k : b .known ≡ true) where
     is-graded : g ≡ G s places (b .command)
-    unfolding listedBy ungraded
-    is-graded =
-        let e : l ≡ listedOf (b .command) = el ∙ simp k in
-        eg ∙ ap (λ (y : FieldList). gradedFrom s places ungraded 0 (take (y .len) (y .codes))) e ∙ ap (gradedFrom s places ungraded 0) (listed-is (b .command))
+    unfolding gradedAs ungraded
+    is-graded = eg ∙ simp k (ap (gradedFrom s places ungraded 0) (listed-is (b .command)))
 
     -- the fields tell
     by-fields : byWorst s places (b .command) (b .count) w ≡ answered s places b

@@ -3,7 +3,7 @@ use Prim.Native.Nat.{ℕ, _-_, _/_}
 use mathlib.Core.Bool.{Bool, true, false, _&&_, not}
 use mathlib.Core.List.{List}
 use lib.Dec.{eqb, ltb}
-use lib.ListN.{length, replicate}
+use lib.ListN.{length, take, replicate}
 use Rattle.octets.specs.Choice.{either}
 use Rattle.element.specs.declared.Step.{Step}
 use Rattle.element.specs.declared.Step.the-variants.{Next, Broken}
@@ -12,18 +12,14 @@ use Rattle.message.specs.Fields.{fieldsOf}
 use Rattle.message.specs.Reading.{readingBy}
 use Rattle.message.specs.Meant.{refusedAt, toldOf}
 use Rattle.message.specs.Cells.{cellsAt, commandAt}
-use Rattle.grades.specs.declared.FieldList.{FieldList}
 use Rattle.grades.specs.Codes.{listedOf}
+use Rattle.grades.specs.Graded.{Graded, gradedFrom}
 use Rattle.records.specs.declared.Form.{Form}
 use Rattle.reading.specs.declared.Begun.{Begun}
 
 -- the fault of responseExp true with dlOpen false, by their words: invalid, in the fourteenth field
 unfoldable pub crossedBy : ℕ → ℕ → ℕ
 crossedBy expected opened = either (eqb expected 1 && not (eqb opened 1)) (λ _. 114) (λ _. 0)
-
--- the fields that are looked at
-unfoldable pub listedBy : Bool → ℕ → FieldList
-listedBy known command = either known (λ _. listedOf command) (λ _. record { len = 0; codes = replicate 17 0 })
 
 -- a payload that is refused before its fields
 abbrev pub refused : ℕ → ℕ → Begun
@@ -39,6 +35,11 @@ namedBy command count =
 unfoldable pub begunBy : List ℕ → ℕ → Step → Begun
 begunBy s p (Broken n q) = refused n q
 begunBy s p (Next at count) = either (ltb at (length s)) (λ _. refused 10 at) (λ _. namedBy (commandAt s p) count)
+
+-- the fields of a command that we know, graded
+unfoldable pub gradedAs : List ℕ → List ℕ → Begun → Graded → Graded
+gradedAs s places b first =
+    either (b .known) (λ _. gradedFrom s places first 0 (take (listedOf (b .command) .len) (listedOf (b .command) .codes))) (λ _. first)
 
 -- a payload that is refused leaves no value
 unfoldable pub keptBy : {A : Type 0} → Bool → ℕ → List A → A → List A

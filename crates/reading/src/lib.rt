@@ -1,15 +1,15 @@
 // One payload, read: the walk and the places of its values, then its command, its fields and its record.
 use element::Step;
 use frame::Framed;
-use grades::FieldList;
 use message::Told;
 use records::Form;
 ghost use mathlib.Core.Path.{_≡_};
 ghost use Prim.Native.Nat.{_-_, _/_, max};
 ghost use Rattle.field.specs.Cell.{zero64};
 ghost use Rattle.message.specs.Meant.{Meant, refusedAt};
+ghost use Rattle.grades.specs.Graded.{Graded};
 ghost use Rattle.reading.specs.Framed.{MeantFramed};
-ghost use Rattle.reading.specs.Ways.{crossedBy, listedBy, refused, namedBy, begunBy, keptBy, formBy, answered};
+ghost use Rattle.reading.specs.Ways.{crossedBy, gradedAs, refused, namedBy, begunBy, keptBy, formBy, answered};
 
 // What was read at the start of an input, and how many bytes of it: a frame's, or 0 where there is no whole frame.
 pub struct Unframed {
@@ -32,9 +32,8 @@ pub fn read(s: &[u8]) -> Told
 {
     let noted = notes::outer(s);
     let step = noted.step;
-    let places = noted.places;
-    let begun = begun_at(s, step, wide(places[0]));
-    answer(s, &places, begun)
+    let begun = begun_at(s, step, wide(noted.places[0]));
+    answer(s, &noted.places, begun)
 }
 
 // A frame at the start of the bytes that arrived.
@@ -113,11 +112,10 @@ fn answer(s: &[u8], places: &[u16; 64], begun: Begun) -> Told
     let mut words = [0u64; 64];
     let mut figures = [0.0f64; 64];
     let mut user = [0u8; 245];
-    let list = listed(begun.known, begun.command);
-    let grade = grades::grade(
+    let grade = graded(
         s,
         places,
-        list,
+        begun,
         &mut own,
         &mut words,
         &mut figures,
@@ -189,17 +187,22 @@ fn refuse(number: u8) -> Told
     answer(&bytes, &places, refused(number, 0))
 }
 
-// The command's fields; none where the payload is refused already.
-fn listed(known: bool, command: u8) -> FieldList
-    ensures { λ r. ⌜ r ≡ listedBy known command ⌝ }
+// The command's fields are graded; none where the payload is refused already.
+fn graded(
+    s: &[u8],
+    places: &[u16; 64],
+    begun: Begun,
+    own: &mut [u16; 64],
+    words: &mut [u64; 64],
+    figures: &mut [f64; 64],
+    user: &mut [u8],
+) -> u16
+    ensures { λ r. ⌜ _≡_ {A = Graded} (record { grade = r; own = now (own .exit); words = now (words .exit); figures = now (figures .exit); user = now (user .exit) }) (gradedAs (now (s .entry)) (now (places .entry)) begun (record { grade = 0; own = now (own .entry); words = now (words .entry); figures = now (figures .entry); user = now (user .entry) })) ⌝ }
 {
-    if known {
-        return grades::list_of(command);
+    if begun.known {
+        return grades::grade_command(s, places, begun.command, own, words, figures, user);
     }
-    FieldList {
-        len: 0,
-        codes: [0u16; 17],
-    }
+    0
 }
 
 // responseExp without dlOpen, by their words: invalid, at responseExp's place in its list.

@@ -38,6 +38,13 @@ pub fn build<'a>(
 ) -> Told
     ensures { λ r. ⌜ r ≡ toldBy (now (s .entry)) (now (own .entry)) (now (words .entry)) (now (figures .entry)) (now (user .entry)) form ⌝ }
 {
+    let location = place(s, own[5]);
+    let sn_bs_uuid = bytes16(s, own[6]);
+    let sn_sc_uuid = bytes16(s, own[16]);
+    let message = text64(s, own[18]);
+    let profile = text16(s, own[33]);
+    let sign = bytes4(s, own[34]);
+    let nwk_sn_key = bytes16(s, own[36]);
     Told {
         refusal: form.refusal,
         place: form.place,
@@ -55,9 +62,9 @@ pub fn build<'a>(
             bidi: words[4] == 1,
             geo_location: MaybePosition {
                 here: 0 < own[5],
-                value: place(s, own[5]),
+                value: location,
             },
-            sn_bs_uuid: bytes16(s, own[6]),
+            sn_bs_uuid: sn_bs_uuid,
             sn_bs_op_id: MaybeId {
                 here: 0 < own[7],
                 value: signed64(words[7]),
@@ -68,10 +75,10 @@ pub fn build<'a>(
             },
             sc_eui: words[14],
             sn_resume: words[15] == 1,
-            sn_sc_uuid: bytes16(s, own[16]),
+            sn_sc_uuid: sn_sc_uuid,
             code: signed32(words[17]),
             message_len: (words[18] % 0x100) as u8,
-            message: text64(s, own[18]),
+            message: message,
             time: words[19],
             duty_cycle: figures[20],
             uptime: MaybeWord {
@@ -104,9 +111,9 @@ pub fn build<'a>(
                 has_eq_snr: 0 < own[32],
             },
             profile_len: (words[33] % 0x100) as u8,
-            profile: text16(s, own[33]),
-            sign: bytes4(s, own[34]),
-            nwk_sn_key: bytes16(s, own[36]),
+            profile: profile,
+            sign: sign,
+            nwk_sn_key: nwk_sn_key,
             sh_addr: (words[37] % 0x1_0000) as u16,
             last_packet_cnt: (words[38] % 0x1_0000_0000) as u32,
             dual_chan: words[39] == 1,

@@ -1,7 +1,7 @@
 use borrow.Author.Needs.{needs}
 use Prim.Native.Nat.{_-_}
 use Rattle.grades.specs.Graded.{Graded}
-use Rattle.grades.proofs.Turns.{Going, turn, turns}
+use Rattle.grades.proofs.Turns.{Going, turn, turn-sound, turns}
 use native.Mathlib.Omega.{arith}
 use Rattle.grades.proofs.grade.Statement.{statement}
 use Rattle.grades.proofs.grade.Tie as tie
@@ -43,41 +43,41 @@ wide-requires c κs = search needs
 held-by-requires : tie.Need-held-by-requires Inv-loop μ-loop
 held-by-requires c κs = search needs
 
--- src/lib.rt:112:31
-grade-of-requires : tie.Need-grade-of-requires Inv-loop μ-loop
-grade-of-requires c κs = search needs
-
 -- src/lib.rt:112:9
-graver-requires : tie.Need-graver-requires Inv-loop μ-loop
-graver-requires c κs = search needs
-
--- src/lib.rt:113:9
 mul-own : tie.Need-mul-own Inv-loop μ-loop
 mul-own c = search needs
 
--- src/lib.rt:113:9
+-- src/lib.rt:112:9
 element-write-own : tie.Need-element-write-own Inv-loop μ-loop
 element-write-own c = search needs
 
--- src/lib.rt:114:9
+-- src/lib.rt:113:9
 mul-words : tie.Need-mul-words Inv-loop μ-loop
 mul-words c = search needs
 
--- src/lib.rt:114:9
+-- src/lib.rt:113:9
 element-write-words : tie.Need-element-write-words Inv-loop μ-loop
 element-write-words c = search needs
 
--- src/lib.rt:115:9
+-- src/lib.rt:114:9
 mul-figures : tie.Need-mul-figures Inv-loop μ-loop
 mul-figures c = search needs
 
--- src/lib.rt:115:9
+-- src/lib.rt:114:9
 element-write-figures : tie.Need-element-write-figures Inv-loop μ-loop
 element-write-figures c = search needs
 
 -- src/lib.rt:116:9
 add-i : tie.Need-add-i Inv-loop μ-loop
 add-i c = search needs
+
+-- src/lib.rt:118:35
+grade-of-requires : tie.Need-grade-of-requires Inv-loop μ-loop
+grade-of-requires c κs = search needs
+
+-- src/lib.rt:118:13
+graver-requires : tie.Need-graver-requires Inv-loop μ-loop
+graver-requires c κs = search needs
 
 -- src/lib.rt:108:5
 loop-less : tie.Need-loop-less Inv-loop μ-loop
@@ -86,14 +86,26 @@ loop-less c = search needs
 -- src/lib.rt:108:5
 loop-again : tie.Need-loop-again Inv-loop μ-loop
 loop-again c =
-    let h = c .before .before .before .before in
+    let h = c .before .before .before .before .before .before in
     let w = h .before .before in
     let l = w .before in
     turn (l .loop-test .taken) (w .wide .ensures) (h .held-by .ensures .0) (h .held-by .ensures .1) (c .before .grade-of .ensures) (c .graver .ensures) (l .before .loop .inv)
 
+-- src/lib.rt:108:5
+loop-less-2 : tie.Need-loop-less-2 Inv-loop μ-loop
+loop-less-2 c = search needs
+
+-- src/lib.rt:108:5
+loop-again-2 : tie.Need-loop-again-2 Inv-loop μ-loop
+loop-again-2 c =
+    let h = c .before .before .before .before in
+    let w = h .before .before in
+    let l = w .before in
+    turn-sound (l .loop-test .taken) (w .wide .ensures) (h .held-by .ensures .0) (h .held-by .ensures .1) (c .if1 .left) (l .before .loop .inv)
+
 -- src/lib.rt:93:1
 same-length : tie.Need-same-length Inv-loop μ-loop
-same-length c = search needs
+same-length c = search (turns, needs)
 
 -- src/lib.rt:93:1
 returns : tie.Need-returns Inv-loop μ-loop
@@ -111,8 +123,6 @@ grade-spec =
     array-read-code
     wide-requires
     held-by-requires
-    grade-of-requires
-    graver-requires
     mul-own
     element-write-own
     mul-words
@@ -120,7 +130,11 @@ grade-spec =
     mul-figures
     element-write-figures
     add-i
+    grade-of-requires
+    graver-requires
     loop-less
     loop-again
+    loop-less-2
+    loop-again-2
     same-length
     returns)

@@ -10,23 +10,23 @@ use Rattle.reading.proofs.answer.Reads as answer-reads
 use Rattle.reading.proofs.begun_at.Reads as begun-at-reads
 use Rattle.reading.proofs.wide.Reads as wide-reads
 
--- src/lib.rt:33:9
+-- src/lib.rt:33:17
 outer-requires : tie.Need-outer-requires
 outer-requires c κs = search needs
 
--- src/lib.rt:36:40
-array-read-wide : tie.Need-array-read-wide
-array-read-wide c = search needs
+-- src/lib.rt:35:40
+element-copy-out-wide : tie.Need-element-copy-out-wide
+element-copy-out-wide c = search needs
 
--- src/lib.rt:36:35
+-- src/lib.rt:35:35
 wide-requires : tie.Need-wide-requires
 wide-requires c κs = search needs
 
--- src/lib.rt:36:9
+-- src/lib.rt:35:9
 begun-at-requires : tie.Need-begun-at-requires
 begun-at-requires c κs = search needs
 
--- src/lib.rt:37:5
+-- src/lib.rt:36:5
 answer-requires : tie.Need-answer-requires
 answer-requires c κs = search needs
 
@@ -39,7 +39,7 @@ read-spec =
     tie.close
     (tie.spec
     outer-requires
-    array-read-wide
+    element-copy-out-wide
     wide-requires
     begun-at-requires
     answer-requires

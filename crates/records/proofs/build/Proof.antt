@@ -10,18 +10,19 @@ use Rattle.records.proofs.build.Tie as tie
 returns : tie.Need-returns
 unfolding builtOf
 returns c =
-    let at-nwk-sn-key = c .before .before .before .before .before .before .before .before .before .before .before .before in
+    let at-code = c .before .before .before .before .before .before .before .before .before .before .before .before .before .before .before .before .before .before .before .before .before .before .before .before .before .before .before .before .before .before .before .before .before in
+    let at-sn-sc-op-id = at-code .before .before .before .before in
+    let at-sn-bs-op-id = at-sn-sc-op-id .before .before .before in
+    let at-op-id = at-sn-bs-op-id .before .before .before .before .before .before .before .before .before .before in
+    let at-nwk-sn-key = at-op-id .before .before in
     let at-sign = at-nwk-sn-key .before .before in
     let at-profile = at-sign .before .before in
-    let at-message = at-profile .before .before .before .before .before .before .before .before .before .before .before .before .before .before .before .before .before .before .before .before .before .before in
-    let at-code = at-message .before .before .before in
-    let at-sn-sc-uuid = at-code .before .before in
-    let at-sn-sc-op-id = at-sn-sc-uuid .before .before .before .before in
-    let at-sn-bs-op-id = at-sn-sc-op-id .before .before .before in
-    let at-sn-bs-uuid = at-sn-bs-op-id .before .before .before in
+    let at-message = at-profile .before .before in
+    let at-sn-sc-uuid = at-message .before .before in
+    let at-sn-bs-uuid = at-sn-sc-uuid .before .before in
     let at-geo-location = at-sn-bs-uuid .before .before in
-    let at-op-id = at-geo-location .before .before .before .before .before .before .before .before .before in
-    let a = at-op-id .before .before .before .args in
+    let at-start = at-geo-location .before .before .before in
+    let a = at-start .args in
     let m = builtOf (a .s .now) (a .own .now) (a .words .now) (a .figures .now) (a .user .now) (a .form .command) in
     λ i. record {
       refusal = a .form .refusal;
@@ -80,33 +81,17 @@ build-spec =
     (λ c. search needs)
     (λ c κs. search needs)
     (λ c. search needs)
+    (λ c κs. search needs)
     (λ c. search needs)
-    (λ c. search needs)
-    (λ c. search needs)
-    (λ c. search needs)
-    (λ c. search needs)
-    (λ c. search needs)
-    (λ c. search needs)
-    (λ c. search needs)
-    (λ c. search needs)
+    (λ c κs. search needs)
     (λ c. search needs)
     (λ c κs. search needs)
     (λ c. search needs)
     (λ c κs. search needs)
     (λ c. search needs)
-    (λ c. search needs)
-    (λ c κs. search needs)
-    (λ c. search needs)
-    (λ c. search needs)
-    (λ c κs. search needs)
-    (λ c. search needs)
-    (λ c. search needs)
-    (λ c. search needs)
     (λ c κs. search needs)
     (λ c. search needs)
     (λ c κs. search needs)
-    (λ c. search needs)
-    (λ c. search needs)
     (λ c. search needs)
     (λ c κs. search needs)
     (λ c. search needs)
@@ -121,22 +106,38 @@ build-spec =
     (λ c. search needs)
     (λ c. search needs)
     (λ c. search needs)
+    (λ c κs. search needs)
     (λ c. search needs)
     (λ c. search needs)
-    (λ c. search needs)
-    (λ c. search needs)
-    (λ c. search needs)
-    (λ c. search needs)
-    (λ c. search needs)
-    (λ c. search needs)
+    (λ c κs. search needs)
     (λ c. search needs)
     (λ c. search needs)
     (λ c. search needs)
     (λ c κs. search needs)
     (λ c. search needs)
-    (λ c κs. search needs)
     (λ c. search needs)
-    (λ c κs. search needs)
+    (λ c. search needs)
+    (λ c. search needs)
+    (λ c. search needs)
+    (λ c. search needs)
+    (λ c. search needs)
+    (λ c. search needs)
+    (λ c. search needs)
+    (λ c. search needs)
+    (λ c. search needs)
+    (λ c. search needs)
+    (λ c. search needs)
+    (λ c. search needs)
+    (λ c. search needs)
+    (λ c. search needs)
+    (λ c. search needs)
+    (λ c. search needs)
+    (λ c. search needs)
+    (λ c. search needs)
+    (λ c. search needs)
+    (λ c. search needs)
+    (λ c. search needs)
+    (λ c. search needs)
     (λ c. search needs)
     (λ c. search needs)
     (λ c. search needs)
