@@ -33,37 +33,6 @@ struct Held {
     figure: f64,
 }
 
-// The fields of the command with a number; a number past the lists has command and opId alone.
-pub fn list_of(command: u8) -> FieldList
-    ensures { λ r. ⌜ r ≡ listedOf command ⌝ }
-{
-    if command == 7 {
-        return UL_DATA;
-    }
-    if command == 0 {
-        return CON;
-    }
-    if command == 1 {
-        return CON_RSP;
-    }
-    if command == 2 {
-        return STATUS_RSP;
-    }
-    if command == 3 {
-        return DET;
-    }
-    if command == 4 {
-        return DET_RSP;
-    }
-    if command == 5 {
-        return ATT_PRP;
-    }
-    if command == 6 {
-        return DET_PRP;
-    }
-    SHORT
-}
-
 // A fault with its field's place: a graver one is more, and of equal ones the first.
 fn grade_of(fault: u8, i: usize) -> u16
     requires { ⌜ i < 64 ⌝ }
@@ -101,12 +70,11 @@ pub fn grade(
 ) -> u16
     ensures { λ r. ⌜ _≡_ {A = Graded} (record { grade = r; own = now (own .exit); words = now (words .exit); figures = now (figures .exit); user = now (user .exit) }) (gradedFrom (now (s .entry)) (now (places .entry)) (record { grade = 0; own = now (own .entry); words = now (words .entry); figures = now (figures .entry); user = now (user .entry) }) 0 (take (list .len) (list .codes))) ⌝ }
 {
-    let codes = list.codes;
     let end = few(list.len);
     let mut worst: u16 = 0;
     let mut i: usize = 0;
     while i < end {
-        let code = codes[i];
+        let code = list.codes[i];
         let slot = cell::wide(code % 64);
         let field = cell::held_by(s, places, code, user);
         own[slot] = field.place;
@@ -121,7 +89,8 @@ pub fn grade(
     worst
 }
 
-// The same for the command with a number, each with its own list: a list that is chosen and handed on would be copied code by code.
+// The same for the command with a number; a number past the lists has command and opId alone. Each has a call of its own: a list that is
+// chosen first and then handed on would be copied code by code.
 pub fn grade_command(
     s: &[u8],
     places: &[u16; 64],
