@@ -3,7 +3,7 @@
 use mathlib.Core.Path.{_≡_, refl, sym, ap, _∙_}
 use mathlib.Core.Bool.{Bool, true, false}
 use mathlib.Core.List.{List, [], _∷_}
-use Prim.Native.Nat.{ℕ, zero, suc, _≤_}
+use Prim.Native.Nat.{ℕ, zero, suc, _+_, _≤_, _<_}
 use native.Mathlib.Omega.{arith}
 use lib.Dec.{eqb}
 use lib.ListN.{length}
@@ -57,19 +57,17 @@ module _ (s : List ℕ) (at n : ℕ) (r : Judged) where
 pub ruleset families = (kind-is, kind-maps)
 
 -- a cell, by its place
-module _ (k : Kind) (s : List ℕ) (p : ℕ) where
-  pub cell-missing : p ≡ 0 → record { state = 2; word = 0; figure = zero64 } ≡ toldOf (cellAt k s p)
+module _ (k : Kind) (s : List ℕ) where
+  pub cell-absent : (p : ℕ) (r : Judged) → p < 2 → r ≡ record { state = 2 + p; word = 0; figure = zero64 } → r ≡ toldOf (cellAt k s p)
   unfolding cellAt
-  cell-missing e = rw e
+  cell-absent zero r h q = q
+  cell-absent (suc zero) r h q = q
+  cell-absent (suc (suc p)) r h q = absurd (omega arith)
 
-  pub cell-double : p ≡ 1 → record { state = 3; word = 0; figure = zero64 } ≡ toldOf (cellAt k s p)
-  unfolding cellAt
-  cell-double e = rw e
+  pub cell-there : (p : ℕ) (r : Judged) → 2 ≤ p → r ≡ readAt k s p → r ≡ toldOf (cellAt k s p)
+  unfolding cellAt readAt tellOf
+  cell-there zero r h q = absurd (omega arith)
+  cell-there (suc zero) r h q = absurd (omega arith)
+  cell-there (suc (suc p)) r h q = q
 
-pub cell-there : (k : Kind) (s : List ℕ) (p : ℕ) (r : Judged) → (p ≡ 0 → ⊥) → (p ≡ 1 → ⊥) → r ≡ readAt k s p → r ≡ toldOf (cellAt k s p)
-unfolding cellAt readAt tellOf
-cell-there k s zero r f g q = absurd (f refl)
-cell-there k s (suc zero) r f g q = absurd (g refl)
-cell-there k s (suc (suc p)) r f g q = q
-
-pub ruleset cells = (cell-missing, cell-double, cell-there)
+pub ruleset cells = (cell-absent, cell-there)

@@ -173,22 +173,20 @@ module _ (s : List ℕ) (at : ℕ) (a : Part) (y : Lists s at a) (room : List �
 pub ruleset array-intos = (lead-nowhere, lead-long, lead-there, told-long, octets-good, octets-bad, arith)
 
 -- a field by its place
-module _ (s : List ℕ) (p : ℕ) (room : List ℕ) where
-  pub read-missing : p ≡ 0 → room ≡ readInto s p room
+module _ (s : List ℕ) where
+  pub read-absent : (p : ℕ) (room : List ℕ) → p < 2 → room ≡ readInto s p room
   unfolding readInto
-  read-missing e = rw e
+  read-absent zero room h = refl
+  read-absent (suc zero) room h = refl
+  read-absent (suc (suc p)) room h = absurd (omega arith)
 
-  pub read-double : p ≡ 1 → room ≡ readInto s p room
+  pub read-there : (p : ℕ) (room out : List ℕ) → 2 ≤ p → out ≡ leadInto s p room → out ≡ readInto s p room
   unfolding readInto
-  read-double e = rw e
+  read-there zero room out h q = absurd (omega arith)
+  read-there (suc zero) room out h q = absurd (omega arith)
+  read-there (suc (suc p)) room out h q = q
 
-pub read-there : (s : List ℕ) (p : ℕ) (room out : List ℕ) → (p ≡ 0 → ⊥) → (p ≡ 1 → ⊥) → out ≡ leadInto s p room → out ≡ readInto s p room
-unfolding readInto
-read-there s zero room out f g q = absurd (f refl)
-read-there s (suc zero) room out f g q = absurd (g refl)
-read-there s (suc (suc p)) room out f g q = q
-
-pub ruleset reads = (read-missing, read-double, read-there, cells)
+pub ruleset reads = (read-absent, read-there, cells)
 
 -- what a caller learns: the room of a missing field is as it was
 pub into-missing : (s : List ℕ) (room : List ℕ) → readInto s 0 room ≡ room

@@ -3,16 +3,25 @@ use mathlib.Core.Path.{_≡_, refl, sym, ap, _∙_}
 use mathlib.Core.Bool.{Bool, true, false, _&&_}
 use mathlib.Core.List.{List, [], _∷_}
 use mathlib.Core.Option.{Option, some, none}
-use Prim.Native.Nat.{ℕ, zero, suc}
+use Prim.Native.Nat.{ℕ, zero, suc, _+_, _-_, _/_, _%_, _≤_, _<_}
+use native.Mathlib.Omega.{arith}
+use lib.Dec.{leb}
 use lib.IntN.{ℤ}
-use lib.Ieee.{Float}
+use lib.Ieee.{Float, binary64, ofBits, top, hid, ones}
+use lib.ListN.{length, getD}
+use borrow.Author.Tests.{le-leb, lt-leb}
 use Rattle.octets.specs.Choice.{either}
+use Rattle.octets.specs.Number.{bigAt, ifThere}
 use Rattle.element.specs.Form.{spanOf}
 use Rattle.element.specs.Meaning.{Element, Elements}
 use Rattle.element.specs.At.{leafAt}
 use Rattle.number.specs.declared.Number.{Number}
 use Rattle.number.specs.declared.Number.the-variants.{Signed, Unsigned, Real, Not}
-use Rattle.number.specs.Number.{numberOf}
+use Rattle.number.specs.Number.{numberOf, realBy}
+use Rattle.number.specs.Body.{given}
+use Rattle.number.proofs.Bodies.{given-is, real-none, real-is, no-nan}
+use Rattle.number.proofs.Reading.{double-is}
+use Rattle.walk.specs.Short.{twoTo}
 use Rattle.field.specs.declared.Judged.{Judged}
 use Rattle.field.specs.declared.Part.{Part}
 use Rattle.field.specs.declared.Measure.{Measure}
@@ -23,6 +32,7 @@ use Rattle.field.specs.At.{endOf, leavesFrom, shallowAt, positioned}
 use Rattle.field.specs.Read.{badly, well, tellOf, readAt}
 use Rattle.field.specs.Part.{partsBy, Lists}
 use Rattle.field.specs.Item.{no-measure, measureBy, measureAt, realsFrom, unknown, tripleOf}
+use Rattle.field.proofs.Heads.{number-ends}
 
 -- one real
 module _ (s : List ℕ) (at : ℕ) (x : Number) (e : x ≡ numberOf (leafAt s at)) where
@@ -44,6 +54,32 @@ module _ (s : List ℕ) (at : ℕ) (x : Number) (e : x ≡ numberOf (leafAt s at
     measure-not q = n ∙ by-measure Not q
 
 pub ruleset measures = (measure-real, measure-signed, measure-unsigned, measure-not)
+
+-- a float 64
+module _ (s : List ℕ) (at : ℕ) (there : at < length s) (b : getD s at 0 ≡ 0xCB) where
+  pub double-cut : (r : Measure) → r ≡ no-measure → length s - at < 9 → r ≡ measureAt s at
+  unfolding given
+  double-cut r q h =
+      let l : leb (at + 1 + 8) (length s) ≡ false = lt-leb (at + 1 + 8) (length s) (omega arith) in
+      measure-not s at Not (double-is s at Not false 0 there b (simp l) (simp l) refl) r q refl
+
+  module _ (n : ℕ) (h : 9 ≤ length s - at) (f : n ≡ ifThere s (at + 1) 8 (bigAt s (at + 1) 8)) where
+    real-here : (x : Number) → x ≡ realBy binary64 n → x ≡ numberOf (leafAt s at)
+    real-here x e =
+        let l : leb (at + 1 + 8) (length s) ≡ true = le-leb (at + 1 + 8) (length s) (omega arith) in
+        double-is s at x true n there b (simp l) f (given-is true x (realBy binary64 n) refl e)
+
+    pub double-infinite : (r : Measure) → r ≡ no-measure → n % top binary64 / hid binary64 ≡ ones binary64 → r ≡ measureAt s at
+    double-infinite r q e = measure-not s at Not (real-here Not (real-none binary64 n e)) r q refl
+
+    pub double-real : (n % top binary64 / hid binary64 ≡ ones binary64 → ⊥) → record { there = true; x = ofBits binary64 n; next = at + 9 } ≡ measureAt s at
+    double-real e =
+        let w : 8 ≡ twoTo (getD s at 0 % 4) = rw b in
+        let z : at + 9 ≡ at + 1 + 8 = omega arith in
+        measure-real s at (Real (ofBits binary64 n)) (real-here (Real (ofBits binary64 n)) (real-is binary64 n e)) (ofBits binary64 n) (at + 9) refl
+        (z ∙ number-ends s at 8 there (omega arith) (omega arith) w (omega arith))
+
+pub ruleset doubles = (double-cut, double-infinite, double-real, no-nan, arith)
 
 -- three of them
 abbrev nest : Option Float → Option Float → Option Float → Option (List Float)

@@ -12,10 +12,11 @@ mod whole;
 
 use element::Shape;
 ghost use mathlib.Core.Path.{_≡_};
+ghost use Prim.Native.Nat.{_+_, _<_};
 ghost use lib.ListN.{length};
 ghost use Rattle.field.specs.Kind.{Kind, kindOf};
 ghost use Rattle.field.specs.Judge.{judge};
-ghost use Rattle.field.specs.Cell.{toldOf};
+ghost use Rattle.field.specs.Cell.{toldOf, zero64};
 ghost use Rattle.field.specs.At.{shallowAt, cellAt, filled, positioned};
 ghost use Rattle.field.specs.Into.{readInto};
 
@@ -87,21 +88,22 @@ enum Fed {
 pub fn cell_at(s: &[u8], p: usize, kind: u16) -> Judged
     ensures { λ r. ⌜ r ≡ toldOf (cellAt (kindOf kind) (now (s .entry)) p) ⌝ }
 {
-    if p == 0 {
-        return Judged {
-            state: 2,
-            word: 0,
-            figure: 0.0,
-        };
-    }
-    if p == 1 {
-        return Judged {
-            state: 3,
-            word: 0,
-            figure: 0.0,
-        };
+    if p < 2 {
+        return absent(p);
     }
     kind::kind_at(s, p, kind)
+}
+
+// A field that has no one place: its key is missing, or stands more than once.
+fn absent(p: usize) -> Judged
+    requires { ⌜ p < 2 ⌝ }
+    ensures { λ r. ⌜ r ≡ record { state = 2 + p; word = 0; figure = zero64 } ⌝ }
+{
+    Judged {
+        state: 2 + (p as u8),
+        word: 0,
+        figure: 0.0,
+    }
 }
 
 // The value of such a field that is an array of bytes, as many as the room has space for, and the bytes at the room's start, in one pass.
@@ -110,19 +112,8 @@ pub fn octets_read(s: &[u8], p: usize, out: &mut [u8]) -> Judged
     ensures told { λ r. ⌜ r ≡ toldOf (cellAt (Kind.arrays 0 (length (now (out .entry)))) (now (s .entry)) p) ⌝ }
     ensures room { λ _. ⌜ now (out .exit) ≡ readInto (now (s .entry)) p (now (out .entry)) ⌝ }
 {
-    if p == 0 {
-        return Judged {
-            state: 2,
-            word: 0,
-            figure: 0.0,
-        };
-    }
-    if p == 1 {
-        return Judged {
-            state: 3,
-            word: 0,
-            figure: 0.0,
-        };
+    if p < 2 {
+        return absent(p);
     }
     into::array_into(s, p, out)
 }

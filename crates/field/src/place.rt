@@ -8,7 +8,10 @@ use crate::whole::bad;
 use crate::whole::good;
 use number::Number;
 use number::number_at;
+use octets::big_at;
 ghost use mathlib.Core.Path.{_≡_};
+ghost use Prim.Native.Nat.{_<_};
+ghost use lib.ListN.{length, getD};
 ghost use Rattle.field.specs.Kind.{Kind};
 ghost use Rattle.field.specs.Judge.{onSome, positionOf, judge};
 ghost use Rattle.field.specs.At.{shallowAt};
@@ -66,7 +69,38 @@ fn unknown() -> Triple
     }
 }
 
+// A finite real and the place behind it. Most are of eight bytes, and are read with no call of the number reader.
 fn measure_at(s: &[u8], at: usize) -> Measure
+    ensures { λ r. ⌜ r ≡ measureAt (now (s .entry)) at ⌝ }
+{
+    if at < s.len() {
+        if s[at] == 0xCB {
+            return double_at(s, at);
+        }
+    }
+    any_at(s, at)
+}
+
+// A float 64: its eight bytes are there, and its exponent's field is not all ones.
+fn double_at(s: &[u8], at: usize) -> Measure
+    requires { ⌜ (at < length (now s)) × (getD (now s) at 0 ≡ 0xCB) ⌝ }
+    ensures { λ r. ⌜ r ≡ measureAt (now (s .entry)) at ⌝ }
+{
+    if s.len() - at < 9 {
+        return no_measure();
+    }
+    let n = big_at(s, at + 1, 8);
+    if n % 0x8000_0000_0000_0000 / 0x10_0000_0000_0000 == 0x7FF {
+        return no_measure();
+    }
+    Measure {
+        there: true,
+        x: f64::from_bits(n),
+        next: at + 9,
+    }
+}
+
+fn any_at(s: &[u8], at: usize) -> Measure
     ensures { λ r. ⌜ r ≡ measureAt (now (s .entry)) at ⌝ }
 {
     match number_at(s, at) {

@@ -8,9 +8,9 @@ use lib.Dec.{lit<, leb, ltb, eqb}
 use lib.ListN.{length, getD}
 use mir.Syntax.{w64}
 use mir.Val.{Fits}
-use borrow.Author.Tests.{lt-ltb, le-ltb, le-leb, lt-leb, eq-eqb, ne-eqb}
+use borrow.Author.Tests.{lt-ltb, le-ltb, le-leb, lt-leb, eq-eqb, ne-eqb, ltb-true, ltb-false}
 use Rattle.octets.specs.Choice.{either}
-use Rattle.octets.specs.Number.{bigAt, ifThere}
+use Rattle.octets.specs.Number.{bigAt, isThere, ifThere}
 use Rattle.octets.proofs.Ranges.{true-false}
 use Rattle.octets.proofs.Widths.{within}
 use Rattle.element.specs.declared.Shape.{Shape}
@@ -25,6 +25,7 @@ use Rattle.element.specs.Form.{Role, isText, isMap, faultOf, bodyOf, contentOf,
 use Rattle.element.proofs.Steps.{Faultless, none-fault, element-span, element-fault, suits-outer}
 use Rattle.element.proofs.Passed.{never-used}
 use Rattle.walk.specs.Short.{Says}
+use Rattle.walk.proofs.Leads.{row, map-low, text-low, says-fixmap, says-fixtext}
 use Rattle.message.specs.Notes.{notesOf, unnoted}
 use Rattle.message.specs.Cells.{placesBy, placesOf}
 use Rattle.notes.specs.declared.Noted.{Noted}
@@ -143,3 +144,42 @@ pub length-fits : (h : Head) (x : ℕ) → h .wide ≤ 4 → h .more ≤ 31 → 
 length-fits h x w m l =
     let small = within 256 (h .wide) 4 x (lit< tt) l w in
     record { fits = omega arith }
+
+-- the least lead byte of a map and of a text
+module _ (b : ℕ) where
+  pub map-from : headOf b .shape ≡ Map → 0x80 ≤ b
+  map-from e = go (ltb b 0x80) refl
+    where
+      go : (t : Bool) → ltb b 0x80 ≡ t → 0x80 ≤ b
+      go true q = true-false (sym (map-low b (ltb-true b 0x80 q) ∙ ap isMap e))
+      go false q = ltb-false b 0x80 q
+
+  pub text-from : headOf b .shape ≡ Text → 0xA0 ≤ b
+  text-from e = go (ltb b 0xA0) refl
+    where
+      go : (t : Bool) → ltb b 0xA0 ≡ t → 0xA0 ≤ b
+      go true q = true-false (sym (text-low b (ltb-true b 0xA0 q) ∙ ap isText e))
+      go false q = ltb-false b 0xA0 q
+
+  pub map-says : headOf b .shape ≡ Map → b < 0x90 → Says b (row Map 0 (b - 0x80))
+  map-says e h = says-fixmap b (map-from e) h
+
+  pub text-says : headOf b .shape ≡ Text → b < 0xC0 → Says b (row Text 0 (b - 0xA0))
+  text-says e h = says-fixtext b (text-from e) h
+
+pub ruleset heads = (map-from, text-from, map-says, text-says)
+
+-- no bytes of length state 0
+module _ (s : List ℕ) (p w : ℕ) (e : w ≡ 0) where
+  pub none-stated : 0 ≡ ifThere s p w (bigAt s p w)
+  unfolding bigAt
+  none-stated = rw e (go (isThere (length s) p 0))
+    where
+      go : (t : Bool) → _≡_ {A = ℕ} 0 (either t (λ _. 0) (λ _. 0))
+      go true = refl
+      go false = refl
+
+  pub none-small : 0 < 256 ^ w
+  none-small = rw e (lit< tt)
+
+pub ruleset lengths = (none-stated, none-small)

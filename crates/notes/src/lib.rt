@@ -1,12 +1,17 @@
 // Where the value of each key stands in a payload: one pass over the outer map's pairs, which is also the walk over them.
 mod pass;
 
+use element::Head;
+use element::Shape;
 use element::Step;
 use pass::broken;
 use pass::pass_pairs;
 ghost use mathlib.Core.Path.{_≡_};
-ghost use Prim.Native.Nat.{_≤_, _<_};
+ghost use Prim.Native.Nat.{_^_, _≤_, _<_};
 ghost use lib.ListN.{length};
+ghost use Rattle.octets.specs.Number.{bigAt, ifThere};
+ghost use Rattle.element.specs.Lead.{headOf};
+ghost use Rattle.walk.specs.Short.{Says};
 ghost use Rattle.message.specs.Cells.{commandAt};
 ghost use Rattle.notes.specs.Noted.{notedOf, openedOf, BeginsMap, IsTextAt};
 
@@ -50,13 +55,13 @@ fn opened_map(s: &[u8]) -> Noted
     requires { ⌜ BeginsMap (now s) ⌝ }
     ensures { λ r. ⌜ r ≡ openedOf (now (s .entry)) ⌝ }
 {
-    let h = walk::lead::head_of(s[0]);
+    let h = map_head(s[0]);
     let wide = h.wide;
     if s.len() - 1 < wide {
         return broken(4);
     }
     let from = 1 + wide;
-    let n = h.more + (octets::big_at(s, 1, wide) as usize);
+    let n = h.more + (length_at(s, 1, wide) as usize);
     pass_pairs(s, from, n)
 }
 
@@ -82,16 +87,57 @@ fn named_at(s: &[u8], p: usize) -> usize
     requires { ⌜ IsTextAt (now s) p ⌝ }
     ensures { λ r. ⌜ r ≡ commandAt (now (s .entry)) p ⌝ }
 {
-    let h = walk::lead::head_of(s[p]);
+    let h = text_head(s[p]);
     let wide = h.wide;
     if s.len() - p - 1 < wide {
         return 22;
     }
     let from = p + 1 + wide;
-    let n = h.more + (octets::big_at(s, p + 1, wide) as usize);
+    let n = h.more + (length_at(s, p + 1, wide) as usize);
     if s.len() - from < n {
         return 22;
     }
     let to = from + n;
     names::command_of(&s[from..to])
+}
+
+// The head of a map's lead byte. Below 90, as in most messages, no bytes of length follow.
+fn map_head(b: u8) -> Head
+    requires { ⌜ headOf b .shape ≡ Shape.Map ⌝ }
+    ensures { λ r. ⌜ Says b r ⌝ }
+{
+    if b < 0x90 {
+        return Head {
+            shape: Shape::Map,
+            wide: 0,
+            more: (b - 0x80) as usize,
+        };
+    }
+    walk::lead::head_of(b)
+}
+
+// The head of a text's lead byte. Below C0, as in most messages, no bytes of length follow.
+fn text_head(b: u8) -> Head
+    requires { ⌜ headOf b .shape ≡ Shape.Text ⌝ }
+    ensures { λ r. ⌜ Says b r ⌝ }
+{
+    if b < 0xC0 {
+        return Head {
+            shape: Shape::Text,
+            wide: 0,
+            more: (b - 0xA0) as usize,
+        };
+    }
+    walk::lead::head_of(b)
+}
+
+// What the bytes of length state. Where there are none, no call of the number reader.
+fn length_at(s: &[u8], from: usize, wide: usize) -> u64
+    ensures is { λ r. ⌜ r ≡ ifThere (now (s .entry)) from wide (bigAt (now (s .entry)) from wide) ⌝ }
+    ensures width { λ r. ⌜ r < 256 ^ wide ⌝ }
+{
+    if wide == 0 {
+        return 0;
+    }
+    octets::big_at(s, from, wide)
 }

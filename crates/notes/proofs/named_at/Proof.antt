@@ -7,14 +7,12 @@ use Rattle.notes.proofs.named_at.Tie as tie
 use Rattle.notes.proofs.named_at.Reads as reads
 use Rattle.notes.proofs.named_at.Lts as lts
 use Rattle.names.proofs.command_of.Reads as command-of-reads
-use Rattle.octets.proofs.big_at.Reads as big-at-reads
-use Rattle.walk.proofs.lead.head_of.Reads as head-of-reads
 
-shared-slice-read-head-of : tie.Need-shared-slice-read-head-of
-shared-slice-read-head-of c = search needs
+shared-slice-read-text-head : tie.Need-shared-slice-read-text-head
+shared-slice-read-text-head c = search needs
 
-head-of-requires : tie.Need-head-of-requires
-head-of-requires c κs = search needs
+text-head-requires : tie.Need-text-head-requires
+text-head-requires c κs = search needs
 
 sub-if1 : tie.Need-sub-if1
 sub-if1 c = search needs
@@ -31,11 +29,11 @@ add-from c = search needs
 add-from-2 : tie.Need-add-from-2
 add-from-2 c = search needs
 
-add-big-at : tie.Need-add-big-at
-add-big-at c = search needs
+add-length-at : tie.Need-add-length-at
+add-length-at c = search needs
 
-big-at-requires : tie.Need-big-at-requires
-big-at-requires c κs = search needs
+length-at-requires : tie.Need-length-at-requires
+length-at-requires c κs = search needs
 
 add-n : tie.Need-add-n
 add-n c = search length-fits
@@ -68,15 +66,15 @@ pub named-at-spec : {M : Type 1} → statement M
 named-at-spec =
     tie.close
     (tie.spec
-    shared-slice-read-head-of
-    head-of-requires
+    shared-slice-read-text-head
+    text-head-requires
     sub-if1
     sub-if1-2
     returns
     add-from
     add-from-2
-    add-big-at
-    big-at-requires
+    add-length-at
+    length-at-requires
     add-n
     sub-if2
     returns-2

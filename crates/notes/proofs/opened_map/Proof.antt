@@ -7,14 +7,12 @@ use Rattle.notes.proofs.opened_map.Reads as reads
 use Rattle.notes.proofs.opened_map.Lts as lts
 use Rattle.notes.proofs.pass.broken.Reads as broken-reads
 use Rattle.notes.proofs.pass.pass_pairs.Reads as pass-pairs-reads
-use Rattle.octets.proofs.big_at.Reads as big-at-reads
-use Rattle.walk.proofs.lead.head_of.Reads as head-of-reads
 
-shared-slice-read-head-of : tie.Need-shared-slice-read-head-of
-shared-slice-read-head-of c = search needs
+shared-slice-read-map-head : tie.Need-shared-slice-read-map-head
+shared-slice-read-map-head c = search needs
 
-head-of-requires : tie.Need-head-of-requires
-head-of-requires c κs = search needs
+map-head-requires : tie.Need-map-head-requires
+map-head-requires c κs = search needs
 
 sub-if1 : tie.Need-sub-if1
 sub-if1 c = search needs
@@ -28,8 +26,8 @@ returns c = search (maps, needs)
 add-from : tie.Need-add-from
 add-from c = search needs
 
-big-at-requires : tie.Need-big-at-requires
-big-at-requires c κs = search needs
+length-at-requires : tie.Need-length-at-requires
+length-at-requires c κs = search needs
 
 add-n : tie.Need-add-n
 add-n c = search length-fits
@@ -44,13 +42,13 @@ pub opened-map-spec : {M : Type 1} → statement M
 opened-map-spec =
     tie.close
     (tie.spec
-    shared-slice-read-head-of
-    head-of-requires
+    shared-slice-read-map-head
+    map-head-requires
     sub-if1
     broken-requires
     returns
     add-from
-    big-at-requires
+    length-at-requires
     add-n
     pass-pairs-requires
     returns-2)

@@ -1,8 +1,8 @@
 -- The number at the place, by its variant, and the place behind it. Assumes nothing.
 use borrow.Author.Needs.{needs}
 use Rattle.field.proofs.Places.{measures}
-use Rattle.field.proofs.place.measure_at.Statement.{statement}
-use Rattle.field.proofs.place.measure_at.Tie as tie
+use Rattle.field.proofs.place.any_at.Statement.{statement}
+use Rattle.field.proofs.place.any_at.Tie as tie
 
 number-at-requires : tie.Need-number-at-requires
 number-at-requires c κs = search (measures, needs)
@@ -43,8 +43,8 @@ returns-3 c = search (measures, needs)
 returns-4 : tie.Need-returns-4
 returns-4 c = search (measures, needs)
 
-pub measure-at-spec : {M : Type 1} → statement M
-measure-at-spec =
+pub any-at-spec : {M : Type 1} → statement M
+any-at-spec =
     tie.close
     (tie.spec
     number-at-requires
