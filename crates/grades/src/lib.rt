@@ -70,11 +70,12 @@ pub fn grade(
 ) -> u16
     ensures { λ r. ⌜ _≡_ {A = Graded} (record { grade = r; own = now (own .exit); words = now (words .exit); figures = now (figures .exit); user = now (user .exit) }) (gradedFrom (now (s .entry)) (now (places .entry)) (record { grade = 0; own = now (own .entry); words = now (words .entry); figures = now (figures .entry); user = now (user .entry) }) 0 (take (list .len) (list .codes))) ⌝ }
 {
+    let codes = list.codes;
     let end = few(list.len);
     let mut worst: u16 = 0;
     let mut i: usize = 0;
     while i < end {
-        let code = list.codes[i];
+        let code = codes[i];
         let slot = cell::wide(code % 64);
         let field = cell::held_by(s, places, code, user);
         own[slot] = field.place;

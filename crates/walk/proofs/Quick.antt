@@ -173,11 +173,11 @@ pub told-number : (b rest : ℕ) (i : Bool) → i ≡ isNumber b → i ≡ true 
     → (r : ℕ) → r ≡ either (leb (1 + t) rest) (λ _. 1 + t) (λ _. 0) → r ≡ present rest (quickOf b)
 told-number b rest i e u h t f m r g = told-within b rest (1 + t) (size-number b i e u h t f) (omega arith) r g
 
--- a byte of 80 to FF
-pub told-byte : (b rest : ℕ) → b ≡ 0xCC → 2 ≤ rest → 2 ≡ present rest (quickOf b)
+-- a byte behind CC
+told-byte : (b rest : ℕ) → b ≡ 0xCC → 2 ≤ rest → 2 ≡ present rest (quickOf b)
 told-byte b rest e h = told-within b rest 2 (size-byte b e) (omega arith) 2 (within-is 2 rest h)
 
-pub ruleset tolds = (told-within, told-text, told-number, told-byte, told-opens, within-not, within-is)
+pub ruleset tolds = (told-within, told-text, told-number, told-opens, within-not, within-is)
 
 -- a value or part
 module _ (s : List ℕ) (left at count : ℕ) (h : at < length s) (m : count < 1024) (d : left ≡ 0 → ⊥) where
@@ -200,6 +200,9 @@ module _ (s : List ℕ) (left at count : ℕ) (h : at < length s) (m : count < 1
   pub value-one : getD s at 0 < 0x80 → 1 ≡ quickAt s left Role.value at count
   value-one l =
       value-told 1 (rw (← size-low (getD s at 0) l) (sym (simp (le-leb 1 (length s - at) (omega arith)))))
+
+  pub value-two : getD s at 0 ≡ 0xCC → 2 ≤ length s - at → 2 ≡ quickAt s left Role.value at count
+  value-two e l = value-told 2 (told-byte (getD s at 0) (length s - at) e l)
 
 -- a lead byte that is no short text is no short key
 abbrev noKey : ℕ → Bool

@@ -1,88 +1,129 @@
--- Bytes below 0x80 among an array's parts: each is passed as an element of its own, and so are eight by one test. Assumes nothing.
+-- Parts that are a byte below 0x80, or a byte behind CC: each is passed as an element of its own, and so are eight by one test. Assumes nothing.
 use mathlib.Core.Path.{_≡_, refl, sym, _∙_}
 use mathlib.Core.Bool.{Bool, true, false, _&&_}
 use mathlib.Core.List.{List}
-use Prim.Native.Nat.{ℕ, zero, suc, _+_, _-_, _≤_, _<_}
+use Prim.Native.Nat.{ℕ, zero, suc, _+_, _-_, _*_, _^_, _≤_, _<_}
 use native.Mathlib.Omega.{arith}
-use lib.Dec.{T, leb, leb→le}
+use lib.Dec.{T, leb, leb→le, lit≤}
 use lib.ListN.{length, getD}
+use mir.Syntax.{w64}
+use mir.Val.{Fits}
 use borrow.Author.Tests.{le-leb, lt-leb}
+use Rattle.octets.specs.Number.{isThere}
 use Rattle.octets.specs.Low.{areLow}
 use Rattle.octets.proofs.Lows.{low-there, low-each}
 use Rattle.octets.proofs.Ranges.{true-is, both-left, both-right}
-use Rattle.element.specs.Form.{itemsOf}
-use Rattle.walk.specs.Run.{eightMore, Ran}
-use Rattle.walk.proofs.Quick.{value-one}
-use Rattle.walk.proofs.Turns.{values-short}
+use Rattle.octets.proofs.Reading.{inside}
+use Rattle.element.specs.Form.{Role, elementOf, itemsOf}
+use Rattle.walk.specs.Run.{eightMore, Follows, Passes, Ran}
+use Rattle.walk.proofs.Quick.{value-one, value-two}
+use Rattle.walk.proofs.Turns.{value-quick, items-next}
 
 -- the test for eight parts more
-module _ (s : List ℕ) (at count n : ℕ) where
-  pub more-few : n < 8 → false ≡ eightMore s at count n
+module _ (s : List ℕ) (at n : ℕ) where
+  pub more-few : n < 8 → false ≡ eightMore s at n
   unfolding eightMore
   more-few h = sym (simp (lt-leb 8 n h))
 
-  module _ (h : 8 ≤ n) where
-    pub more-many : 1016 < count → false ≡ eightMore s at count n
-    unfolding eightMore
-    more-many m = sym (simp (le-leb 8 n h, lt-leb count 1016 m))
+  pub more-low : 8 ≤ n → (r : Bool) → r ≡ areLow s at 8 → r ≡ eightMore s at n
+  unfolding eightMore
+  more-low h r e = e ∙ sym (simp (le-leb 8 n h))
 
-    pub more-low : count ≤ 1016 → (r : Bool) → r ≡ areLow s at 8 → r ≡ eightMore s at count n
-    unfolding eightMore
-    more-low m r e = e ∙ sym (simp (le-leb 8 n h, le-leb count 1016 m))
+pub ruleset eights = (more-few, more-low)
 
-pub ruleset eights = (more-few, more-many, more-low)
+-- the place behind a part
+module _ (s : List ℕ) (at : ℕ) where
+  pub follows-not : Follows s at at
+  follows-not = record { is = λ left count m d n. absurd (n refl) }
+
+  pub follows-low : at < length s → getD s at 0 < 0x80 → Follows s at (at + 1)
+  follows-low h b = record { is = λ left count m d n. sym (value-quick s left at count 1 (value-one s left at count h m d b) refl) }
+
+  -- where two bytes are there
+  module _ (t : Bool) (e : t ≡ isThere (length s) at 2) (u : t ≡ true) where
+    pub first-there : at < length s
+    first-there = omega (arith, inside (length s) at 2 t e u)
+
+    pub follows-byte : getD s at 0 ≡ 0xCC → Follows s at (at + 2)
+    follows-byte b =
+        let two : 2 ≤ length s - at = omega (arith, inside (length s) at 2 t e u) in
+        record { is = λ left count m d n. sym (value-quick s left at count 2 (value-two s left at count first-there m d b two) refl) }
+
+    pub behind-fits : (n : ℕ) → n ≤ 2 → length s < 2 ^ 64 → Fits w64 (at + n)
+    behind-fits n h l = record { fits = omega (arith, inside (length s) at 2 t e u) }
+
+pub ruleset octet-ends = (first-there, follows-not, follows-low, follows-byte, behind-fits, lit≤)
 
 -- the same place of the walk, in other words
 same : (s : List ℕ) (left n at count k p c : ℕ) → n ≡ k → at ≡ p → count ≡ c → itemsOf s left false n at count ≡ itemsOf s left false k p c
 same s left n at count k p c x y z = cc
 
-module _ (s : List ℕ) (left : ℕ) (d : left ≡ 0 → ⊥) where
-  one-low : (n at count : ℕ) → 0 < n → at < length s → count < 1024 → getD s at 0 < 0x80
-      → itemsOf s left false n at count ≡ itemsOf s left false (n - 1) (at + 1) (count + 1)
-  one-low n at count h l m b =
-      values-short s left (itemsOf s left false n at count) n at count h refl 1 (value-one s left at count l m d b) refl
-
-  all-low : (n at count i : ℕ) → i ≤ n → at + i ≤ length s → count + i ≤ 1024 → ((j : ℕ) → j < i → getD s (at + j) 0 < 0x80)
-      → itemsOf s left false n at count ≡ itemsOf s left false (n - i) (at + i) (count + i)
-  all-low n at count zero h l m b = same s left n at count (n - 0) (at + 0) (count + 0) (omega arith) (omega arith) (omega arith)
-  all-low n at count (suc i) h l m b =
-      all-low n at count i (omega arith) (omega arith) (omega arith) (λ j k. b j (omega arith))
-      ∙ one-low (n - i) (at + i) (count + i) (omega arith) (omega arith) (omega arith) (b i (omega arith))
-      ∙ same s left (n - i - 1) (at + i + 1) (count + i + 1) (n - suc i) (at + suc i) (count + suc i) (omega arith) (omega arith) (omega arith)
-
--- a run, by eights
-module _ (s : List ℕ) (left n at count : ℕ) where
-  pub ran-none : Ran s left n at count 0
-  ran-none = record {
-    is = same s left n at count (n - 0) (at + 0) (count + 0) (omega arith) (omega arith) (omega arith);
+-- what is passed, part by part
+module _ (s : List ℕ) (n at : ℕ) where
+  pub passes-none : Passes s n at at 0
+  passes-none = record {
+    is = λ left m count a b c. same s left m at count (m - 0) at (count + 0) (omega arith) refl (omega arith);
     most = omega arith;
-    few = omega arith;
-    there = omega arith;
   }
 
-  module _ (d : left ≡ 0 → ⊥) (r : ℕ) (k : Ran s left n at count r) where
-    ran-on : T (eightMore s (at + r) (count + r) (n - r)) → Ran s left n at count (r + 8)
+  module _ (q i : ℕ) (k : Passes s n at q i) where
+    pub passes-one : i < n → (p : ℕ) → Follows s q p → (p ≡ q → ⊥) → Passes s n at p (i + 1)
+    passes-one h p y d = record {
+      is = λ left m count a b c.
+          k .is left m count (omega arith) (omega arith) (omega arith)
+          ∙ items-next s left false (itemsOf s left false (m - i) q (count + i)) (m - i) q (count + i) refl (omega arith)
+          (elementOf s left Role.value q (count + i)) refl p (count + i + 1) (y .is left (count + i) (omega arith) (λ e. omega arith) d)
+          ∙ same s left (m - i - 1) p (count + i + 1) (m - (i + 1)) p (count + (i + 1)) (omega arith) refl (omega arith);
+      most = omega arith;
+    }
+
+  renamed : (q i p j : ℕ) → q ≡ p → i ≡ j → Passes s n at q i → Passes s n at p j
+  renamed q i p j e f k = rw (e, f) at k
+
+  all-low : (q i : ℕ) → Passes s n at q i → (j : ℕ) → i + j ≤ n → q + j ≤ length s → ((x : ℕ) → x < j → getD s (q + x) 0 < 0x80) → Passes s n at (q + j) (i + j)
+  all-low q i k zero h l b = renamed q i (q + 0) (i + 0) (omega arith) (omega arith) k
+  all-low q i k (suc j) h l b =
+      renamed (q + j + 1) (i + j + 1) (q + suc j) (i + suc j) (omega arith) (omega arith)
+      (passes-one (q + j) (i + j) (all-low q i k j (omega arith) (omega arith) (λ x g. b x (omega arith))) (omega arith)
+      (q + j + 1) (follows-low s (q + j) (omega arith) (b j (omega arith))) (λ e. omega arith))
+
+  -- eight more
+  module _ (q i : ℕ) (k : Passes s n at q i) (b : Bool) (e : b ≡ eightMore s q (n - i)) (u : b ≡ true) where
+    eight : T (leb 8 (n - i) && areLow s q 8)
     unfolding eightMore
-    ran-on t =
-        let rest : T (leb (count + r) 1016 && areLow s (at + r) 8) = both-right (leb 8 (n - r)) (leb (count + r) 1016 && areLow s (at + r) 8) t in
-        let low : T (areLow s (at + r) 8) = both-right (leb (count + r) 1016) (areLow s (at + r) 8) rest in
-        let parts : 8 ≤ n - r = leb→le 8 (n - r) (both-left (leb 8 (n - r)) (leb (count + r) 1016 && areLow s (at + r) 8) t) in
-        let counted : count + r ≤ 1016 = leb→le (count + r) 1016 (both-left (leb (count + r) 1016) (areLow s (at + r) 8) rest) in
-        let inside : at + r + 8 ≤ length s = low-there s (at + r) 8 low in
-        record {
-          is = k .is
-              ∙ all-low s left d (n - r) (at + r) (count + r) 8 parts inside (omega arith) (low-each s (at + r) 8 low)
-              ∙ same s left (n - r - 8) (at + r + 8) (count + r + 8) (n - (r + 8)) (at + (r + 8)) (count + (r + 8)) (omega arith) (omega arith) (omega arith);
-          most = omega arith;
-          few = omega arith;
-          there = omega arith;
-        }
+    eight = true-is (eightMore s q (n - i)) (sym u ∙ e)
 
-    module _ (b : Bool) (e : b ≡ eightMore s (at + r) (count + r) (n - r)) (u : b ≡ true) where
-      pub ran-eight : Ran s left n at count (r + 8)
-      ran-eight = ran-on (true-is (eightMore s (at + r) (count + r) (n - r)) (sym u ∙ e))
+    low : T (areLow s q 8)
+    low = both-right (leb 8 (n - i)) (areLow s q 8) eight
 
-      pub ran-less : n - (r + 8) < n - r
-      ran-less = omega (arith, ran-eight .most)
+    pub eight-left : 8 ≤ n - i
+    eight-left = leb→le 8 (n - i) (both-left (leb 8 (n - i)) (areLow s q 8) eight)
 
-pub ruleset runs = (ran-none, ran-eight, ran-less)
+    pub eight-there : q + 8 ≤ length s
+    eight-there = low-there s q 8 low
+
+    pub passes-eight : Passes s n at (q + 8) (i + 8)
+    passes-eight = all-low q i k 8 (omega (arith, eight-left)) eight-there (low-each s q 8 low)
+
+    pub eight-less : n - (i + 8) < n - i
+    eight-less = omega (arith, eight-left)
+
+    pub eight-fits : length s < 2 ^ 64 → Fits w64 (q + 8)
+    eight-fits l = record { fits = omega (arith, eight-there) }
+
+    pub eight-counts : n < 2 ^ 64 → Fits w64 (i + 8)
+    eight-counts l = record { fits = omega (arith, eight-left) }
+
+pub ruleset passings = (passes-none, passes-one, passes-eight, eight-less, eight-fits, eight-counts)
+
+-- of an array at a level
+pub ran-none : (s : List ℕ) (left n at count : ℕ) → Ran s left n at count at 0
+ran-none s left n at count = record { is = same s left n at count (n - 0) at (count + 0) (omega arith) refl (omega arith); most = omega arith; few = omega arith }
+
+pub ran : (s : List ℕ) (left n at count next parts most : ℕ) → Passes s most at next parts → most ≤ n → most ≤ 1024 - count → most ≤ 1024 * left
+    → Ran s left n at count next parts
+ran s left n at count next parts most k a b c =
+    let m = k .most in
+    record { is = k .is left n count (omega arith) (omega arith) (omega arith); most = omega arith; few = omega arith }
+
+pub ruleset runs = (ran-none, ran)

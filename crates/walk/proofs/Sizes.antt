@@ -81,7 +81,7 @@ module _ (b : ℕ) where
   unfolding quickOf headOf leadBytes rowIn
   size-long g h = size-in (λ k. 0) 0xD9 7 tt b g (omega arith)
 
-pub ruleset sizes = (size-low, size-high, size-map, size-array, size-text, size-never, size-nil, size-byte, size-number, size-sized, size-fixext, size-long)
+pub ruleset sizes = (size-low, size-high, size-map, size-array, size-text, size-never, size-nil, size-number, size-sized, size-fixext, size-long)
 
 -- an element without parts
 module _ (z : ℕ) where

@@ -13,22 +13,6 @@ pub fn quick_value(s: &[u8], at: usize, count: usize, left: usize) -> usize
     ensures is { λ r. ⌜ r ≡ quickAt (now (s .entry)) left Role.value at count ⌝ }
     ensures bounds { λ r. ⌜ Bounded (length (now (s .entry))) left at count r ⌝ }
 {
-    quick_at(s, at, count, left, false)
-}
-
-// The same of an array's part. Most arrays hold bytes, so that many a part begins with CC.
-pub fn quick_part(s: &[u8], at: usize, count: usize, left: usize) -> usize
-    ensures is { λ r. ⌜ r ≡ quickAt (now (s .entry)) left Role.value at count ⌝ }
-    ensures bounds { λ r. ⌜ Bounded (length (now (s .entry))) left at count r ⌝ }
-{
-    quick_at(s, at, count, left, true)
-}
-
-// The same of both; `part` chooses only the order of the tests, and not the answer.
-fn quick_at(s: &[u8], at: usize, count: usize, left: usize, part: bool) -> usize
-    ensures is { λ r. ⌜ r ≡ quickAt (now (s .entry)) left Role.value at count ⌝ }
-    ensures bounds { λ r. ⌜ Bounded (length (now (s .entry))) left at count r ⌝ }
-{
     if s.len() <= at {
         return 0;
     }
@@ -42,22 +26,18 @@ fn quick_at(s: &[u8], at: usize, count: usize, left: usize, part: bool) -> usize
     if b < 0x80 {
         return 1;
     }
-    told(b, s.len() - at, part)
+    told(b, s.len() - at)
 }
 
 // What a lead byte tells, where so many bytes are there from it on. The frequent kinds are tested first.
-fn told(b: u8, rest: usize, part: bool) -> usize
+fn told(b: u8, rest: usize) -> usize
     ensures is { λ r. ⌜ r ≡ present rest (quickOf b) ⌝ }
     ensures bounds { λ r. ⌜ (r ≤ 160) × (r ≤ rest + 160 * (r - 63)) ⌝ }
 {
     if b < 0xC0 {
         return told_low(b, rest);
     }
-    if part {
-        told_part(b, rest)
-    } else {
-        told_high(b, rest)
-    }
+    told_high(b, rest)
 }
 
 // Texts before maps and arrays.
@@ -70,19 +50,6 @@ fn told_low(b: u8, rest: usize) -> usize
         return within((b - 0x9F) as usize, rest);
     }
     told_any(b, rest)
-}
-
-// A byte of 80 to FF, before the rest.
-fn told_part(b: u8, rest: usize) -> usize
-    ensures is { λ r. ⌜ r ≡ present rest (quickOf b) ⌝ }
-    ensures bounds { λ r. ⌜ (r ≤ 160) × (r ≤ rest + 160 * (r - 63)) ⌝ }
-{
-    if b == 0xCC {
-        if 2 <= rest {
-            return 2;
-        }
-    }
-    told_high(b, rest)
 }
 
 // Numbers before the rest.

@@ -2,10 +2,9 @@
 // the items left at each turn of a loop.
 use crate::lead::head_of;
 use crate::lead::is_text;
-use crate::run::low_run;
+use crate::run::octet_run;
 use crate::short::is_short;
 use crate::short::quick_key;
-use crate::short::quick_part;
 use crate::short::quick_value;
 use element::Shape;
 use element::Span;
@@ -76,16 +75,16 @@ pub fn value(s: &[u8], at: usize, count: usize, left: usize) -> Step
     held(s, at, count, left, z)
 }
 
-// The n parts of an array from a place on. Many arrays begin with bytes below 0x80: these go by eights.
+// The n parts of an array from a place on. Most arrays hold bytes: their parts go first, in a loop of their own.
 pub fn values(s: &[u8], at: usize, count: usize, left: usize, n: usize) -> Step
     ensures { λ r. ⌜ r ≡ itemsOf (now (s .entry)) left false n at count ⌝ }
 {
-    let r = low_run(s, at, count, left, n);
-    let mut p = at + r;
-    let mut c = count + r;
-    let mut k = n - r;
+    let run = octet_run(s, at, count, left, n);
+    let mut p = run.at;
+    let mut c = count + run.parts;
+    let mut k = n - run.parts;
     while 0 < k {
-        let z = quick_part(s, p, c, left);
+        let z = quick_value(s, p, c, left);
         if is_short(z) {
             p += z;
             c += 1;

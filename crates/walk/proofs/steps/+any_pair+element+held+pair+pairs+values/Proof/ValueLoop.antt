@@ -6,29 +6,26 @@ use borrow.Author.Needs.{needs}
 use native.Mathlib.Omega.{arith}
 use Rattle.element.specs.Form.{itemsOf}
 use Rattle.walk.proofs.steps.held.Reads as held
-use Rattle.walk.proofs.run.low_run.Reads as low-run-reads
+use Rattle.walk.proofs.run.octet_run.Reads as octet-run-reads
 use Rattle.walk.proofs.short.is_short.Reads as is-short-reads
-use Rattle.walk.proofs.short.quick_part.Reads as quick-part-reads
+use Rattle.walk.proofs.short.quick_value.Reads as quick-value-reads
 use Rattle.walk.proofs.steps.values.Reads as values
 use Rattle.walk.proofs.steps.+any_pair+element+held+pair+pairs+values.Lts-values as lts
 use Rattle.walk.proofs.Turns.{items, turns}
 use Rattle.walk.proofs.steps.+any_pair+element+held+pair+pairs+values.Proof.Measures.{held-below, values-at}
 
 abbrev pub claims : ℕ → lts.Claims
-claims t = (low-run-reads.Asked, low-run-reads.Learnt, quick-part-reads.Asked, quick-part-reads.Learnt, is-short-reads.Asked, is-short-reads.Learnt, held-below t, held.Post)
+claims t = (octet-run-reads.Asked, octet-run-reads.Learnt, quick-value-reads.Asked, quick-value-reads.Learnt, is-short-reads.Asked, is-short-reads.Learnt, held-below t, held.Post)
 
 abbrev pub Inv-loop : lts.InvT-loop
-Inv-loop s at count left n r p₀ c₀ k₀ p c k = itemsOf s left false n at count ≡ itemsOf s left false k p c
+Inv-loop s at count left n p₀ c₀ k₀ p c k = itemsOf s left false n at count ≡ itemsOf s left false k p c
 
 abbrev pub μ-loop : lts.MeasureT-loop
-μ-loop s at count left n r p₀ c₀ k₀ p c k = k
+μ-loop s at count left n p₀ c₀ k₀ p c k = k
 
 module _ (t : ℕ) where
-  pub low-run-requires : lts.Need-low-run-requires (claims t) (values-at t) values.Post Inv-loop μ-loop
-  low-run-requires c κs = tt
-
-  pub add-p : lts.Need-add-p (claims t) (values-at t) values.Post Inv-loop μ-loop
-  add-p c = search needs
+  pub octet-run-requires : lts.Need-octet-run-requires (claims t) (values-at t) values.Post Inv-loop μ-loop
+  octet-run-requires c κs = tt
 
   pub add-c : lts.Need-add-c (claims t) (values-at t) values.Post Inv-loop μ-loop
   add-c c = search needs
@@ -39,14 +36,14 @@ module _ (t : ℕ) where
   pub loop-holds : lts.Need-loop-holds (claims t) (values-at t) values.Post Inv-loop μ-loop
   loop-holds c = search needs
 
-  pub quick-part-requires : lts.Need-quick-part-requires (claims t) (values-at t) values.Post Inv-loop μ-loop
-  quick-part-requires c κs = tt
+  pub quick-value-requires : lts.Need-quick-value-requires (claims t) (values-at t) values.Post Inv-loop μ-loop
+  quick-value-requires c κs = tt
 
   pub is-short-requires : lts.Need-is-short-requires (claims t) (values-at t) values.Post Inv-loop μ-loop
   is-short-requires c κs = tt
 
-  pub add-p-2 : lts.Need-add-p-2 (claims t) (values-at t) values.Post Inv-loop μ-loop
-  add-p-2 c = search items
+  pub add-p : lts.Need-add-p (claims t) (values-at t) values.Post Inv-loop μ-loop
+  add-p c = search items
 
   pub add-c-2 : lts.Need-add-c-2 (claims t) (values-at t) values.Post Inv-loop μ-loop
   add-c-2 c = search items

@@ -1,11 +1,11 @@
--- `quick_at` meets its contract: 0 where a rule is broken or a byte is lacking, else what the lead byte tells. Assumes nothing.
+-- `quick_value` meets its contract: 0 where a rule is broken or a byte is lacking, else what the lead byte tells. Assumes nothing.
 use native.Mathlib.Omega.{arith}
 use borrow.Author.Needs.{needs}
 use Rattle.walk.proofs.Quick.{quicks}
-use Rattle.walk.proofs.short.quick_at.Statement.{statement}
-use Rattle.walk.proofs.short.quick_at.Tie as tie
-use Rattle.walk.proofs.short.quick_at.Reads as reads
-use Rattle.walk.proofs.short.quick_at.Lts as lts
+use Rattle.walk.proofs.short.quick_value.Statement.{statement}
+use Rattle.walk.proofs.short.quick_value.Tie as tie
+use Rattle.walk.proofs.short.quick_value.Reads as reads
+use Rattle.walk.proofs.short.quick_value.Lts as lts
 use Rattle.walk.proofs.short.told.Reads as told-reads
 
 returns : tie.Need-returns
@@ -32,8 +32,8 @@ told-requires c κs = search needs
 returns-5 : tie.Need-returns-5
 returns-5 c = search (quicks, needs)
 
-pub quick-at-spec : {M : Type 1} → statement M
-quick-at-spec =
+pub quick-value-spec : {M : Type 1} → statement M
+quick-value-spec =
     tie.close
     (tie.spec
     returns
