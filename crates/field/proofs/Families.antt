@@ -8,6 +8,7 @@ use native.Mathlib.Omega.{arith}
 use lib.Dec.{eqb}
 use lib.ListN.{length}
 use borrow.Author.Tests.{eqb-true, eqb-false}
+use Rattle.field.specs.declared.Bounds.{Bounds}
 use Rattle.field.specs.declared.Judged.{Judged}
 use Rattle.field.specs.Kind.{Kind, kinds, kindIn, kindOf}
 use Rattle.field.specs.Cell.{toldOf, zero64}
@@ -29,14 +30,14 @@ nineteen : (n : ℕ) → 19 ≤ n → length kinds ≤ n
 unfolding kinds
 nineteen n h = h
 
--- none of the k first numbers, as the code's `match` leaves it
+-- none of the k numbers from nine on, as the code's `match` leaves it
 abbrev Others : ℕ → ℕ → Type 0
 Others zero n = Unit {0}
-Others (suc k) n = Others k n × (n ≡ k → ⊥)
+Others (suc k) n = Others k n × (n ≡ 9 + k → ⊥)
 
-beyond : (k n : ℕ) → Others k n → k ≤ n
-beyond zero n o = omega arith
-beyond (suc k) n o = omega (arith, beyond k n (o .0), o .1)
+beyond : (k n : ℕ) → 9 ≤ n → Others k n → 9 + k ≤ n
+beyond zero n h o = omega arith
+beyond (suc k) n h o = omega (arith, beyond k n h (o .0), o .1)
 
 maps-kind : (n : ℕ) → 18 ≤ n → kindOf n ≡ Kind.maps
 maps-kind n h = go (eqb n 18) refl
@@ -51,10 +52,36 @@ module _ (s : List ℕ) (at n : ℕ) (r : Judged) where
   pub kind-is : (m : ℕ) (k : Kind) → n ≡ m → kindOf m ≡ k → r ≡ readAt k s at → r ≡ readAt (kindOf n) s at
   kind-is m k e f q = q ∙ ap (λ (x : Kind). readAt x s at) (sym (ap kindOf e ∙ f))
 
-  pub kind-maps : Others 18 n → r ≡ readAt Kind.maps s at → r ≡ readAt (kindOf n) s at
-  kind-maps o q = q ∙ ap (λ (x : Kind). readAt x s at) (sym (maps-kind n (beyond 18 n o)))
+  pub kind-maps : 9 ≤ n → Others 9 n → r ≡ readAt Kind.maps s at → r ≡ readAt (kindOf n) s at
+  kind-maps h o q = q ∙ ap (λ (x : Kind). readAt x s at) (sym (maps-kind n (beyond 9 n h o)))
 
-pub ruleset families = (kind-is, kind-maps)
+  pub kind-wholes : (b : Bounds) → kindOf n ≡ Kind.wholes (b .lo) (b .hi) → r ≡ readAt (Kind.wholes (b .lo) (b .hi)) s at → r ≡ readAt (kindOf n) s at
+  kind-wholes b e q = q ∙ ap (λ (x : Kind). readAt x s at) (sym e)
+
+pub some-kind : (n : ℕ) → n < 9 → (n ≡ 0 → ⊥) → (0 < n) × (n < 9)
+some-kind n h z = (omega arith, h)
+
+pub ruleset families = (kind-is, kind-maps, kind-wholes, some-kind)
+
+-- the bounds of whole numbers
+pub bounds-are : (n m : ℕ) (b : Bounds) (lo hi : ℕ) → n ≡ m → b ≡ record { lo = lo; hi = hi } → kindOf m ≡ Kind.wholes lo hi → kindOf n ≡ Kind.wholes (b .lo) (b .hi)
+bounds-are n m b lo hi e q k = ap kindOf e ∙ k ∙ sym (ap (λ (x : Bounds). Kind.wholes (x .lo) (x .hi)) q)
+
+-- the last of them
+abbrev Rest : ℕ → ℕ → Type 0
+Rest zero n = Unit {0}
+Rest (suc k) n = Rest k n × (n ≡ 1 + k → ⊥)
+
+past-rest : (k n : ℕ) → 0 < n → Rest k n → k < n
+past-rest zero n h o = h
+past-rest (suc k) n h o = omega (arith, past-rest k n h (o .0), o .1)
+
+pub bounds-last : (n : ℕ) (b : Bounds) (lo hi : ℕ) → (0 < n) × (n < 9) → Rest 7 n → b ≡ record { lo = lo; hi = hi } → kindOf 8 ≡ Kind.wholes lo hi → kindOf n ≡ Kind.wholes (b .lo) (b .hi)
+bounds-last n b lo hi h o q k =
+    let e : n ≡ 8 = omega (arith, h .1, past-rest 7 n (h .0) o) in
+    bounds-are n 8 b lo hi e q k
+
+pub ruleset limits = (bounds-are, bounds-last)
 
 -- a cell, by its place
 module _ (k : Kind) (s : List ℕ) where

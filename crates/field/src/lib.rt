@@ -27,6 +27,12 @@ pub struct Judged {
     pub figure: f64,
 }
 
+// From minus the first to the second.
+struct Bounds {
+    lo: u64,
+    hi: u64,
+}
+
 // geoLocation's three reals.
 pub struct Position {
     pub latitude: f64,
