@@ -1,11 +1,11 @@
 -- One element: its tests in their order, where its body ends, what stands behind its head, and what the walk answers from that.
 -- Each law has the shape of what the code asks where it returns: the premises are what its tests showed there. Assumes nothing.
-use mathlib.Core.Path.{_≡_, refl, sym, ap, _∙_}
+use mathlib.Core.Path.{_≡_, refl, sym, ap, ap₂, _∙_}
 use mathlib.Core.Bool.{Bool, true, false}
 use mathlib.Core.List.{List}
 use Prim.Native.Nat.{ℕ, _+_, _-_, _*_, _^_, _≤_, _<_}
 use native.Mathlib.Omega.{arith}
-use lib.Dec.{lit<, lit≤}
+use lib.Dec.{leb, lit<, lit≤}
 use lib.ListN.{length, getD}
 use mir.Syntax.{w64}
 use mir.Val.{Fits}
@@ -13,12 +13,13 @@ use borrow.Author.Tests.{le-leb, lt-leb, eq-eqb, ne-eqb}
 use Rattle.octets.specs.Number.{bigAt, ifThere}
 use Rattle.octets.proofs.Widths.{within}
 use Rattle.element.specs.declared.Shape.{Shape}
+use Rattle.element.specs.declared.Shape.the-variants.{Array}
 use Rattle.element.specs.declared.Head.{Head}
 use Rattle.element.specs.declared.Span.{Span}
 use Rattle.element.specs.declared.Span.the-variants.{Cut, Ends, Holds}
 use Rattle.element.specs.declared.Step.{Step}
 use Rattle.element.specs.declared.Step.the-variants.{Next, Broken}
-use Rattle.element.specs.Lead.{headOf}
+use Rattle.element.specs.Lead.{rowIn, leadBytes, headOf}
 use Rattle.element.specs.Form.{Role, isText, notOuter, faultOf, bodyOf, contentOf, spanOf, spanned, elementOf, itemsOf}
 use Rattle.element.proofs.Steps.{fault-none, element-span, element-fault, body-ends}
 use Rattle.walk.specs.Short.{Says}
@@ -92,6 +93,30 @@ module _ (s : List ℕ) (at : ℕ) (h : Head) (lt : at < length s) (y : Says (ge
       rw (← y .is) (simp (le-leb (at + 1 + h .wide) (length s) (omega arith), k, ← n) q)
 
 pub ruleset spans = (length-fits, span-cut, span-shape)
+
+-- an array with two bytes of length
+long-head : headOf 0xDC ≡ record { shape = Array; wide = 2; more = 0 }
+unfolding headOf rowIn leadBytes
+long-head = refl
+
+module _ (s : List ℕ) (at : ℕ) (there : at < length s) (e : getD s at 0 ≡ 0xDC) where
+  pub long-cut : length s - at - 1 < 2 → Cut ≡ spanOf s at
+  unfolding spanOf
+  long-cut g = sym (rw (e, long-head) (simp (lt-leb (at + 1 + 2) (length s) (omega arith))))
+
+  pub long-holds : (x : ℕ) → 2 ≤ length s - at - 1 → x ≡ ifThere s (at + 1) 2 (bigAt s (at + 1) 2) → Holds (at + 3) x false ≡ spanOf s at
+  unfolding spanOf
+  long-holds x g f =
+      let j : leb (at + 1 + 2) (length s) ≡ true = le-leb (at + 1 + 2) (length s) (omega arith) in
+      let b : x ≡ bigAt s (at + 1) 2 = f ∙ simp j in
+      let v : 0 + bigAt s (at + 1) 2 ≡ x = omega arith in
+      let p : at + 1 + 2 ≡ at + 3 = omega arith in
+      sym (rw (e, long-head) (simp j (ap₂ (λ (a b : ℕ). Holds a b false) p v)))
+
+pub is-long : (s : List ℕ) (at : ℕ) → at < length s → getD s at 0 ≡ 0xDC → (at < length s) × (getD s at 0 ≡ 0xDC)
+is-long s at h e = (h, e)
+
+pub ruleset longs = (long-cut, long-holds, is-long, arith)
 
 -- an element without a fault, by its span
 module _ (s : List ℕ) (left : ℕ) (role : Role) (at count f : ℕ) (e : f ≡ faultOf s left role at count) (z : f ≡ 0) where

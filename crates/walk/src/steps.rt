@@ -12,7 +12,7 @@ use element::Step;
 ghost use mathlib.Core.Path.{_≡_};
 ghost use mathlib.Core.Bool.{true, false};
 ghost use Prim.Native.Nat.{_+_, _≤_, _<_};
-ghost use lib.ListN.{length};
+ghost use lib.ListN.{length, getD};
 ghost use Rattle.element.specs.Form.{Role, bodyOf, faultOf, spanOf, elementOf, itemsOf};
 ghost use Rattle.walk.specs.Short.{quickAfter, Bounded, After, Opens, Told};
 ghost use Rattle.walk.specs.Turn.{roleOf, pairOf};
@@ -221,8 +221,34 @@ fn body(len: usize, from: usize, n: usize) -> Span
     }
 }
 
-// What stands behind the head at a place.
+// What stands behind the head at a place. Byte arrays of more than fifteen parts have the head DC: they need no table of heads.
 fn span_at(s: &[u8], at: usize) -> Span
+    requires { ⌜ at < length (now s) ⌝ }
+    ensures { λ r. ⌜ r ≡ spanOf (now (s .entry)) at ⌝ }
+{
+    if s[at] == 0xDC {
+        return long_array(s, at);
+    }
+    any_span(s, at)
+}
+
+// The same of an array with two bytes of length.
+fn long_array(s: &[u8], at: usize) -> Span
+    requires { ⌜ (at < length (now s)) × (getD (now s) at 0 ≡ 0xDC) ⌝ }
+    ensures { λ r. ⌜ r ≡ spanOf (now (s .entry)) at ⌝ }
+{
+    if s.len() - at - 1 < 2 {
+        return Span::Cut;
+    }
+    Span::Holds {
+        from: at + 3,
+        parts: octets::big_at(s, at + 1, 2) as usize,
+        keyed: false,
+    }
+}
+
+// The same of any head.
+fn any_span(s: &[u8], at: usize) -> Span
     requires { ⌜ at < length (now s) ⌝ }
     ensures { λ r. ⌜ r ≡ spanOf (now (s .entry)) at ⌝ }
 {

@@ -1,8 +1,8 @@
--- `span_at` meets its contract: the head is cut, or what follows it goes by its shape. At most four bytes of length: the sum fits. Assumes nothing.
+-- `any_span` meets its contract: the head is cut, or what follows it goes by its shape. At most four bytes of length: the sum fits. Assumes nothing.
 use borrow.Author.Needs.{needs}
 use Rattle.walk.proofs.Elements.{spans}
-use Rattle.walk.proofs.steps.span_at.Statement.{statement}
-use Rattle.walk.proofs.steps.span_at.Tie as tie
+use Rattle.walk.proofs.steps.any_span.Statement.{statement}
+use Rattle.walk.proofs.steps.any_span.Tie as tie
 
 shared-slice-read-b : tie.Need-shared-slice-read-b
 shared-slice-read-b c = search needs
@@ -70,8 +70,8 @@ returns-5 c = search spans
 returns-6 : tie.Need-returns-6
 returns-6 c = search spans
 
-pub span-at-spec : {M : Type 1} → statement M
-span-at-spec =
+pub any-span-spec : {M : Type 1} → statement M
+any-span-spec =
     tie.close
     (tie.spec
     shared-slice-read-b
