@@ -8,6 +8,7 @@ use Rattle.field.specs.declared.Position.{Position}
 use Rattle.field.specs.Kind.{Kind, kindOf}
 use Rattle.field.specs.Judge.{judge}
 use Rattle.field.specs.Cell.{toldOf}
+use Rattle.field.specs.Into.{readInto}
 use Rattle.field.specs.At.{shallowAt, cellAt, filled, positioned}
 
 module _ (s : List ℕ) (p : ℕ) where
@@ -21,7 +22,13 @@ module _ (s : List ℕ) (p : ℕ) where
     pub octets-into-settled : a ≡ filled (judge (Kind.arrays 0 (length out)) (shallowAt s p)) out → b ≡ filled (judge (Kind.arrays 0 (length out)) (shallowAt s p)) out → a ≡ b
     octets-into-settled e f = e ∙ sym f
 
+    pub octets-read-room-settled : a ≡ readInto s p out → b ≡ readInto s p out → a ≡ b
+    octets-read-room-settled e f = e ∙ sym f
+
+    pub octets-read-settled : (r q : Judged) → r ≡ toldOf (cellAt (Kind.arrays 0 (length out)) s p) → q ≡ toldOf (cellAt (Kind.arrays 0 (length out)) s p) → r ≡ q
+    octets-read-settled r q e f = e ∙ sym f
+
     pub text-into-settled : a ≡ filled (judge (Kind.texts 0 (length out)) (shallowAt s p)) out → b ≡ filled (judge (Kind.texts 0 (length out)) (shallowAt s p)) out → a ≡ b
     text-into-settled e f = e ∙ sym f
 
-pub ruleset settled = (cell-at-settled, position-at-settled, octets-into-settled, text-into-settled)
+pub ruleset settled = (cell-at-settled, position-at-settled, octets-into-settled, octets-read-room-settled, octets-read-settled, text-into-settled)
