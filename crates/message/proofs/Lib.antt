@@ -1,3 +1,4 @@
 pub mod Stands
 pub mod Known
 pub mod Read
+pub mod KeyKinds

@@ -27,7 +27,8 @@ use Rattle.grades.proofs.Stores.{last}
 use Rattle.grades.proofs.Cells.{grade-is, words-is, figures-is, own-last-is, figures-length}
 use Rattle.grades.proofs.Faultless.{none-first}
 use Rattle.records.specs.Built.{builtOf}
-use Rattle.records.proofs.Filled.{kindFor, agreed, kinds-of, Kept, Filled, kept-cell}
+use Rattle.message.proofs.KeyKinds.{kindFor, agreed, kinds-of}
+use Rattle.records.proofs.Filled.{Kept, Filled, kept-cell}
 use Rattle.records.proofs.Same.{built-is}
 use Rattle.reading.proofs.Across.{lookAt}
 use Rattle.reading.proofs.User.{user-filled}

@@ -2,7 +2,7 @@
 -- `Filled s own words figures user look` is what `build` is to be called with for its result to be the record of `look` (proofs/Same).
 -- Its use: `look` is any function from a key to its cell, as `lookIn Cell.missing l cs` for the cells cs of a list l of document 01.
 -- Each slot k below 49 gets of the key's cell its word and its real; its place where the cell is good, and 0 where the key is missing.
--- `kept-cell` gives `kept` of a field without fault; `kinds-of` says that a key has one kind, `kindFor`, in all lists.
+-- `kept-cell` gives `kept` of a field without fault.
 -- Assumes nothing.
 use mathlib.Core.Path.{_≡_, refl}
 use mathlib.Core.Bool.{Bool, true, false, _&&_}
@@ -23,38 +23,7 @@ use Rattle.field.specs.At.{shallowAt, cellAt}
 use Rattle.message.specs.Fields.{Field, headed, lists, listIn, fieldsOf, table}
 use Rattle.message.specs.Record.{wordIn, figureIn, stringIn}
 use Rattle.message.specs.Reading.{faultOf}
-
--- the number of the kind that a list gives a key; that of a map where it has none
-abbrev kindBy : List Field → List ℕ → ℕ
-kindBy [] u = table
-kindBy (f ∷ l) u = either (sameBytes (f .key) u) (λ _. f .kind) (λ _. kindBy l u)
-
-abbrev joined : List (List Field) → List Field
-joined [] = []
-joined (l ∷ ls) = l ++ joined ls
-
--- the number of the kind that document 01 gives a key
-unfoldable pub kindFor : List ℕ → ℕ
-kindFor u = kindBy (joined lists) u
-
--- each field of a list has its key's one kind
-abbrev pub agreed : List Field → Bool
-agreed [] = true
-agreed (f ∷ l) = eqb (kindFor (f .key)) (f .kind) && agreed l
-
-abbrev allAgreed : List (List Field) → Bool
-allAgreed [] = agreed (headed [])
-allAgreed (l ∷ ls) = agreed l && allAgreed ls
-
-agreed-in : (ls : List (List Field)) → T (allAgreed ls) → (c : ℕ) → T (agreed (listIn ls c))
-unfolding listIn
-agreed-in [] t c = t
-agreed-in (l ∷ ls) t zero = both-left (agreed l) (allAgreed ls) t
-agreed-in (l ∷ ls) t (suc c) = agreed-in ls (both-right (agreed l) (allAgreed ls) t) c
-
-pub kinds-of : (c : ℕ) → T (agreed (fieldsOf c))
-unfolding kindFor lists
-kinds-of c = agreed-in lists tt c
+use Rattle.message.proofs.KeyKinds.{kindFor}
 
 -- a key's place and cell: missing at 0, or good under its kind
 pub data Kept (s : List ℕ) (k : Kind) : ℕ → Cell → Type 0 where

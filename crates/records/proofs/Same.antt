@@ -23,7 +23,8 @@ use Rattle.message.specs.declared.MaybeVersion.{MaybeVersion}
 use Rattle.message.specs.declared.Signal.{Signal}
 use Rattle.message.specs.declared.Message.{Message}
 use Rattle.records.specs.Built.{signedOf, foundAt, builtOf}
-use Rattle.records.proofs.Filled.{kindFor, Kept, Filled}
+use Rattle.message.proofs.KeyKinds.{kindFor}
+use Rattle.records.proofs.Filled.{Kept, Filled}
 use Rattle.records.proofs.Words.{Most, signed-kept, mark-kept, there-kept, low-kept, major-kept}
 use Rattle.records.proofs.Strings.{Room, string-kept, position-kept}
 

@@ -1,0 +1,10 @@
+pub mod Reals
+pub mod Zeros
+pub mod Typed
+pub mod Parts
+pub mod Ids
+pub mod Owners
+pub mod Groups
+pub mod Rowwise
+pub mod Whole
+pub mod Settled

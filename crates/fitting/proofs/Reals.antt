@@ -1,0 +1,46 @@
+-- A real is unlike itself exactly if it is a NaN: `x != x` in the code. A NaN is neither finite nor zero. Assumes nothing.
+use mathlib.Core.Path.{_≡_, refl, sym, _∙_}
+use mathlib.Core.Bool.{Bool, true, false, not, Bool·beq, and-true}
+use Prim.Native.Nat.{_*_}
+use lib.Dec.{T, eqb}
+use lib.Ieee.{Float, nan, inf, fin, binary64, ne, eq, isNan, toBits, fits as holds, up, down}
+use borrow.Author.Tests.{eq-eqb}
+use Rattle.octets.proofs.Ranges.{true-false}
+use Rattle.number.specs.Number.{finite}
+use Rattle.saying.specs.Says.{noBits}
+use Rattle.saying.specs.Fits.{isReal}
+
+beq-self : (b : Bool) → Bool·beq b b ≡ true
+beq-self true = refl
+beq-self false = refl
+
+unlike-self : (x : Float) → ne x x ≡ isNan x
+unfolding ne eq isNan
+unlike-self nan = refl
+unlike-self (inf s) = rw beq-self
+unlike-self (fin s m e) = rw (eq-eqb (m * up e * down e) (m * up e * down e) refl, beq-self s)
+
+pub no-nan : (x : Float) → ne x x ≡ false → T (not (isNan x))
+no-nan x e = rw (← unlike-self, e) tt
+
+is-nan : (x : Float) → isNan x ≡ true → x ≡ nan
+unfolding isNan
+is-nan nan e = refl
+is-nan (inf s) e = true-false (sym e)
+is-nan (fin s m e) q = true-false (sym q)
+
+pub nan-unreal : (x : Float) → ne x x ≡ true → false ≡ isReal x
+unfolding toBits
+nan-unreal x e = rw (is-nan x (sym (unlike-self x) ∙ e)) refl
+
+pub nan-bits : (x : Float) → ne x x ≡ true → false ≡ noBits x
+unfolding toBits
+nan-bits x e = rw (is-nan x (sym (unlike-self x) ∙ e)) refl
+
+pub held-real : (x : Float) → holds binary64 x ≡ true → finite binary64 (toBits binary64 x) ≡ isReal x
+held-real x e = rw (e, and-true)
+
+pub held-bits : (x : Float) → holds binary64 x ≡ true → eqb (toBits binary64 x) 0 ≡ noBits x
+held-bits x e = rw (e, and-true)
+
+pub ruleset reals = (no-nan, nan-unreal, nan-bits, held-real, held-bits)

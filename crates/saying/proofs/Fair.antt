@@ -1,0 +1,287 @@
+-- What a cell without a fault holds, by its kind: nothing, or a value in the kind's range. Each kind's judging tests its range; that a real
+-- which was read is finite and a binary64 holds for both formats, since a value of binary32 is one of binary64. Assumes nothing.
+use mathlib.Core.Path.{_≡_, refl, sym, ap, subst, _∙_}
+use mathlib.Core.Bool.{Bool, true, false, not, cond}
+use mathlib.Core.List.{List, [], _∷_}
+use mathlib.Core.Option.{Option, some, none}
+use Prim.Native.Nat.{ℕ, zero, suc, _/_, _%_}
+use native.Mathlib.Omega.{arith}
+use lib.Dec.{T, eqb, leb, ltb, leb·suc-suc}
+use lib.IntN.{ℤ, pos, negsuc}
+use lib.Ieee.{Float, nan, inf, fin, Format, binary32, binary64, ofBits, ofFields, odd, toBits, fits as holds, top, hid, ones}
+use lib.Ieee.Bits.{ofBits-toBits, ofBits-fits}
+use lib.Ieee.Fits.{and-i, fits-widens}
+use lib.Pow.{areBytes}
+use Rattle.octets.specs.Choice.{either}
+use Rattle.octets.proofs.Ranges.{true-false}
+use Rattle.element.specs.Meaning.{Element, Elements}
+use Rattle.element.specs.Meaning.Element.{null, truth, whole, single, double, text, octets, typed, list, table}
+use Rattle.element.specs.Meaning.Elements.{no-more, more}
+use Rattle.number.specs.declared.Number.{Number}
+use Rattle.number.specs.declared.Number.the-variants.{Signed, Unsigned, Real, Not}
+use Rattle.number.specs.Number.{numberOf, finite}
+use Rattle.field.specs.Kind.{Kind, Value}
+use Rattle.field.specs.Judge.{when, onSome, inRange, wholeIn, realIn, octetIn, truthOf, textOf, partsOf, octetsIn, realsIn, positionOf, sized, judge}
+use Rattle.field.specs.Version.{numberOfPart, digitsFrom, atMost, released, three, versionOf}
+use Rattle.field.specs.Version as Version
+use Rattle.field.specs.Cell.{Said, Cell, judged, cellOf}
+use Rattle.message.specs.Reading.{faultOf}
+use Rattle.saying.specs.Fits.{isReal, isSized}
+
+-- a cell of a kind that a record keeps
+pub data Fair : Kind → Cell → Type 0 where
+  left : (k : Kind) → Fair k Cell.missing
+  number : (lo hi : ℕ) (z : ℤ) → T (inRange lo hi z) → Fair (Kind.wholes lo hi) (Cell.good (Value.number z))
+  figure : (x : Float) → T (isReal x) → Fair Kind.reals (Cell.good (Value.figure x))
+  mark : (b : Bool) → Fair Kind.flags (Cell.good (Value.mark b))
+  position : (x y z : Float) → T (isReal x) → T (isReal y) → T (isReal z) → Fair Kind.places (Cell.good (Value.position x y z))
+  array : (lo hi : ℕ) (d : List ℕ) → T (isSized lo hi d) → T (areBytes d) → Fair (Kind.arrays lo hi) (Cell.good (Value.string d))
+  letters : (lo hi : ℕ) (d : List ℕ) → T (isSized lo hi d) → Fair (Kind.texts lo hi) (Cell.good (Value.string d))
+  release : (a b c : ℕ) → T (leb a 65535) → T (leb b 65535) → T (leb c 65535) → Fair Kind.versions (Cell.good (Value.release a b c))
+
+-- a float is finite exactly if its exponent's field is not all ones
+abbrev isFin : Float → Bool
+isFin nan = false
+isFin (inf s) = false
+isFin (fin s m e) = true
+
+odd-fin : (d : ℕ) (s : Bool) (q k l : ℕ) → isFin (odd d s q k l) ≡ true
+unfolding odd
+odd-fin d s zero k l = refl
+odd-fin d s (suc q) k l = refl
+
+unbounded : (b s : Bool) → isFin (cond b (inf s) nan) ≡ false
+unbounded true s = refl
+unbounded false s = refl
+
+fields-fin : (f : Format) (s : Bool) (x t : ℕ) (b : Bool) → eqb x (ones f) ≡ b → isFin (ofFields f s x t) ≡ not b
+unfolding ofFields
+fields-fin binary32 s zero t true e = true-false (sym e)
+fields-fin binary32 s zero t false e = odd-fin 24 s t 0 149
+fields-fin binary32 s (suc x) t true e = simp e (unbounded (eqb t 0) s)
+fields-fin binary32 s (suc x) t false e = simp (e, odd-fin)
+fields-fin binary64 s zero t true e = true-false (sym e)
+fields-fin binary64 s zero t false e = odd-fin 53 s t 0 1074
+fields-fin binary64 s (suc x) t true e = simp e (unbounded (eqb t 0) s)
+fields-fin binary64 s (suc x) t false e = simp (e, odd-fin)
+
+bits-fin : (f : Format) (n : ℕ) → isFin (ofBits f n) ≡ finite f n
+unfolding ofBits
+bits-fin f n = fields-fin f _ (n % top f / hid f) (n % hid f) (eqb (n % top f / hid f) (ones f)) refl
+
+fin-bits : (f : Format) (x : Float) → T (holds f x) → isFin x ≡ finite f (toBits f x)
+fin-bits f x h = sym (ap isFin (ofBits-toBits f x h)) ∙ bits-fin f (toBits f x)
+
+double-fits : (f : Format) (n : ℕ) → T (holds binary64 (ofBits f n))
+double-fits binary32 n = fits-widens (ofBits binary32 n) (ofBits-fits binary32 n)
+double-fits binary64 n = ofBits-fits binary64 n
+
+pub bits-real : (f : Format) (n : ℕ) → T (finite f n) → T (isReal (ofBits f n))
+bits-real f n t =
+    let x = ofBits f n in
+    let h = double-fits f n in
+    and-i (finite binary64 (toBits binary64 x)) (holds binary64 x)
+    (subst T (sym (bits-fin f n) ∙ fin-bits binary64 x h) t) h
+
+-- what is read as a real
+abbrev RealRead : Number → Type 0
+RealRead (Signed z) = Unit {0}
+RealRead (Unsigned n) = Unit {0}
+RealRead (Real x) = T (isReal x)
+RealRead Not = Unit {0}
+
+bits-read : (f : Format) (n : ℕ) (b : Bool) → finite f n ≡ b → RealRead (either b (λ _. Real (ofBits f n)) (λ _. Not))
+bits-read f n true e = bits-real f n (rw e tt)
+bits-read f n false e = tt
+
+real-read : (e : Element) → RealRead (numberOf e)
+real-read null = tt
+real-read (truth b) = tt
+real-read (whole (pos n)) = tt
+real-read (whole (negsuc k)) = tt
+real-read (single n) = bits-read binary32 n (finite binary32 n) refl
+real-read (double n) = bits-read binary64 n (finite binary64 n) refl
+real-read (text d) = tt
+real-read (octets d) = tt
+real-read (typed t d) = tt
+real-read (list es) = tt
+real-read (table fs) = tt
+
+-- a property of what is there
+abbrev Where : {A : Type 0} → (A → Type 0) → Option A → Type 0
+Where P none = Unit {0}
+Where P (some a) = P a
+
+real-in : (n : Number) → RealRead n → Where (λ (x : Float). T (isReal x)) (realIn n)
+real-in (Signed z) t = tt
+real-in (Unsigned n) t = tt
+real-in (Real x) t = t
+real-in Not t = tt
+
+abbrev AllReal : List Float → Type 0
+AllReal [] = Unit {0}
+AllReal (x ∷ xs) = T (isReal x) × AllReal xs
+
+reals-in : (es : Elements) → Where AllReal (realsIn es)
+unfolding realsIn
+reals-in no-more = tt
+reals-in (more e es) = go (realIn (numberOf e)) (real-in (numberOf e) (real-read e)) (realsIn es) (reals-in es)
+  where
+    go : (o : Option Float) → Where (λ (x : Float). T (isReal x)) o → (p : Option (List Float)) → Where AllReal p → Where AllReal (onSome o (λ x. onSome p (λ xs. some (x ∷ xs))))
+    go none t p u = tt
+    go (some x) t none u = tt
+    go (some x) t (some xs) u = (t, u)
+
+byte-in : (n : ℕ) → T (leb n 255) → T (ltb n 256)
+byte-in n t = rw leb·suc-suc t
+
+octet-in : (n : Number) → Where (λ (b : ℕ). T (ltb b 256)) (octetIn n)
+octet-in (Signed z) = tt
+octet-in (Unsigned n) = go (leb n 255) refl
+  where
+    go : (b : Bool) → leb n 255 ≡ b → Where (λ (b : ℕ). T (ltb b 256)) (either b (λ _. some n) (λ _. none))
+    go true e = byte-in n (rw e tt)
+    go false e = tt
+octet-in (Real x) = tt
+octet-in Not = tt
+
+octets-in : (es : Elements) → Where (λ (d : List ℕ). T (areBytes d)) (octetsIn es)
+unfolding octetsIn
+octets-in no-more = tt
+octets-in (more e es) = go (octetIn (numberOf e)) (octet-in (numberOf e)) (octetsIn es) (octets-in es)
+  where
+    go : (o : Option ℕ) → Where (λ (b : ℕ). T (ltb b 256)) o → (p : Option (List ℕ)) → Where (λ (d : List ℕ). T (areBytes d)) p
+        → Where (λ (d : List ℕ). T (areBytes d)) (onSome o (λ b. onSome p (λ bs. some (b ∷ bs))))
+    go none t p u = tt
+    go (some b) t none u = tt
+    go (some b) t (some bs) u = and-i (ltb b 256) (areBytes bs) t u
+
+-- a version's numbers
+abbrev small : ℕ → Type 0
+small n = T (leb n 65535)
+
+at-most : (o : Option ℕ) → Where small (atMost 65535 o)
+at-most none = tt
+at-most (some n) = go (leb n 65535) refl
+  where
+    go : (b : Bool) → leb n 65535 ≡ b → Where small (either b (λ _. some n) (λ _. none))
+    go true e = rw e tt
+    go false e = tt
+
+part-small : (d : List ℕ) → Where small (numberOfPart d)
+part-small [] = tt
+part-small (c ∷ []) = at-most (digitsFrom 0 (c ∷ []))
+part-small (c ∷ (d ∷ cs)) = go (eqb c 0x30)
+  where
+    go : (b : Bool) → Where small (either b (λ _. none) (λ _. atMost 65535 (digitsFrom 0 (c ∷ (d ∷ cs)))))
+    go true = tt
+    go false = at-most (digitsFrom 0 (c ∷ (d ∷ cs)))
+
+-- neither invalid nor twice
+abbrev pub isSound : Cell → Bool
+isSound Cell.missing = true
+isSound Cell.double = false
+isSound Cell.bad = false
+isSound (Cell.good v) = true
+
+pub sound : (must : Bool) (c : Cell) → faultOf must c ≡ 0 → T (isSound c)
+sound must Cell.missing e = tt
+sound must Cell.double e = absurd (omega arith)
+sound must Cell.bad e = absurd (omega arith)
+sound must (Cell.good v) e = tt
+
+-- a kind whose values a record keeps
+abbrev pub isKept : Kind → Bool
+isKept (Kind.wholes lo hi) = true
+isKept Kind.reals = true
+isKept Kind.flags = true
+isKept Kind.places = true
+isKept (Kind.arrays lo hi) = true
+isKept (Kind.texts lo hi) = true
+isKept Kind.versions = true
+isKept Kind.words = false
+isKept Kind.maps = false
+
+-- from what an element is worth
+abbrev FairIf : Kind → Option Value → Type 0
+FairIf k o = T (isSound (judged o)) → Fair k (judged o)
+
+fair-when : (k : Kind) (b : Bool) (v : Value) → (T b → Fair k (Cell.good v)) → FairIf k (when b v)
+fair-when k true v f t = f tt
+fair-when k false v f t = absurd t
+
+whole-fair : (lo hi : ℕ) (n : Number) → FairIf (Kind.wholes lo hi) (wholeIn lo hi n)
+whole-fair lo hi (Signed z) = fair-when (Kind.wholes lo hi) (inRange lo hi z) (Value.number z) (Fair.number lo hi z)
+whole-fair lo hi (Unsigned n) = fair-when (Kind.wholes lo hi) (leb n hi) (Value.number (pos n)) (Fair.number lo hi (pos n))
+whole-fair lo hi (Real x) = λ t. absurd t
+whole-fair lo hi Not = λ t. absurd t
+
+real-fair : (o : Option Float) → Where (λ (x : Float). T (isReal x)) o → FairIf Kind.reals (onSome o (λ x. some (Value.figure x)))
+real-fair none r t = absurd t
+real-fair (some x) r t = Fair.figure x r
+
+flag-fair : (o : Option Bool) → FairIf Kind.flags (onSome o (λ b. some (Value.mark b)))
+flag-fair none t = absurd t
+flag-fair (some b) t = Fair.mark b
+
+position-fair : (xs : List Float) → AllReal xs → FairIf Kind.places (positionOf xs)
+position-fair [] r t = absurd t
+position-fair (x ∷ []) r t = absurd t
+position-fair (x ∷ (y ∷ [])) r t = absurd t
+position-fair (x ∷ (y ∷ (z ∷ []))) r t = Fair.position x y z (r .0) (r .1 .0) (r .1 .1 .0)
+position-fair (x ∷ (y ∷ (z ∷ (w ∷ rest)))) r t = absurd t
+
+place-fair : (o : Option Elements) → FairIf Kind.places (onSome o (λ es. onSome (realsIn es) positionOf))
+place-fair none t = absurd t
+place-fair (some es) t = go (realsIn es) (reals-in es) t
+  where
+    go : (p : Option (List Float)) → Where AllReal p → FairIf Kind.places (onSome p positionOf)
+    go none r t = absurd t
+    go (some xs) r t = position-fair xs r t
+
+array-fair : (lo hi : ℕ) (o : Option Elements) → FairIf (Kind.arrays lo hi) (onSome o (λ es. onSome (octetsIn es) (sized lo hi)))
+array-fair lo hi none t = absurd t
+array-fair lo hi (some es) t = go (octetsIn es) (octets-in es) t
+  where
+    go : (p : Option (List ℕ)) → Where (λ (d : List ℕ). T (areBytes d)) p → FairIf (Kind.arrays lo hi) (onSome p (sized lo hi))
+    go none r t = absurd t
+    go (some d) r t = fair-when (Kind.arrays lo hi) (isSized lo hi d) (Value.string d) (λ s. Fair.array lo hi d s r) t
+
+text-fair : (lo hi : ℕ) (o : Option (List ℕ)) → FairIf (Kind.texts lo hi) (onSome o (sized lo hi))
+text-fair lo hi none t = absurd t
+text-fair lo hi (some d) t = fair-when (Kind.texts lo hi) (isSized lo hi d) (Value.string d) (Fair.letters lo hi d) t
+
+released-fair : (a b c : Option ℕ) → Where small a → Where small b → Where small c → FairIf Kind.versions (released a b c)
+released-fair (some a) (some b) (some c) p q r t = Fair.release a b c p q r
+released-fair (some a) (some b) none p q r t = absurd t
+released-fair (some a) none c p q r t = absurd t
+released-fair none b c p q r t = absurd t
+
+three-fair : (ps : List (List ℕ)) → FairIf Kind.versions (three ps)
+three-fair [] t = absurd t
+three-fair (a ∷ []) t = absurd t
+three-fair (a ∷ (b ∷ [])) t = absurd t
+three-fair (a ∷ (b ∷ (c ∷ []))) t = released-fair (numberOfPart a) (numberOfPart b) (numberOfPart c) (part-small a) (part-small b) (part-small c) t
+three-fair (a ∷ (b ∷ (c ∷ (d ∷ rest)))) t = absurd t
+
+version-fair : (o : Option (List ℕ)) → FairIf Kind.versions (onSome o versionOf)
+unfolding versionOf
+version-fair none t = absurd t
+version-fair (some d) t = three-fair (Version.partsOf d) t
+
+judge-fair : (k : Kind) (e : Element) → T (isKept k) → FairIf k (judge k e)
+unfolding judge
+judge-fair (Kind.wholes lo hi) e u = whole-fair lo hi (numberOf e)
+judge-fair Kind.reals e u = real-fair (realIn (numberOf e)) (real-in (numberOf e) (real-read e))
+judge-fair Kind.flags e u = flag-fair (truthOf e)
+judge-fair Kind.places e u = place-fair (partsOf e)
+judge-fair (Kind.arrays lo hi) e u = array-fair lo hi (partsOf e)
+judge-fair (Kind.texts lo hi) e u = text-fair lo hi (textOf e)
+judge-fair Kind.versions e u = version-fair (textOf e)
+judge-fair Kind.words e u = absurd u
+judge-fair Kind.maps e u = absurd u
+
+pub cell-fair : (k : Kind) → T (isKept k) → (s : Said) → T (isSound (cellOf k s)) → Fair k (cellOf k s)
+cell-fair k u Said.absent t = Fair.left k
+cell-fair k u (Said.once e) t = judge-fair k e u t
+cell-fair k u Said.twice t = absurd t

@@ -1,0 +1,14 @@
+pub mod Sayings
+pub mod Sorts
+pub mod Decimals
+pub mod Back
+pub mod Words
+pub mod Shown
+pub mod Rows
+pub mod RoundTrip
+pub mod Sizes
+pub mod Payloads
+pub mod Fair
+pub mod Made
+pub mod Found
+pub mod Read

@@ -1,0 +1,87 @@
+-- A value in its range is of its kind's sort, so that laws over kinds go by one case a kind; and the kinds of document 01 are no wider than what a
+-- whole, an array and a text are written in, by one computed test. Assumes nothing.
+use mathlib.Core.Path.{subst}
+use mathlib.Core.Bool.{Bool, true, _&&_}
+use mathlib.Core.List.{List, [], _∷_}
+use Prim.Native.Nat.{ℕ, zero, suc, _^_}
+use lib.Dec.{T, eqb, eqb→eq, leb, ltb}
+use lib.IntN.{ℤ}
+use lib.Ieee.{Float}
+use Rattle.octets.proofs.Ranges.{both-left, both-right}
+use Rattle.field.specs.Kind.{Kind, Value, kinds, kindIn, kindOf}
+use Rattle.saying.specs.Fits.{inBounds, sortFor, sortOf, within}
+
+-- a value by the number of its sort
+data Of : ℕ → Value → Type 0 where
+  nothing : Of 0 Value.nothing
+  number : (z : ℤ) → Of 1 (Value.number z)
+  figure : (x : Float) → Of 2 (Value.figure x)
+  mark : (b : Bool) → Of 3 (Value.mark b)
+  position : (x y z : Float) → Of 4 (Value.position x y z)
+  string : (d : List ℕ) → Of 5 (Value.string d)
+  release : (a b c : ℕ) → Of 6 (Value.release a b c)
+
+of-sort : (v : Value) → Of (sortOf v) v
+of-sort Value.nothing = nothing
+of-sort (Value.number z) = number z
+of-sort (Value.figure x) = figure x
+of-sort (Value.mark b) = mark b
+of-sort (Value.position x y z) = position x y z
+of-sort (Value.string d) = string d
+of-sort (Value.release a b c) = release a b c
+
+-- a value of a kind's sort
+pub data Sorted : Kind → Value → Type 0 where
+  whole : (lo hi : ℕ) (z : ℤ) → Sorted (Kind.wholes lo hi) (Value.number z)
+  real : (x : Float) → Sorted Kind.reals (Value.figure x)
+  flag : (b : Bool) → Sorted Kind.flags (Value.mark b)
+  place : (x y z : Float) → Sorted Kind.places (Value.position x y z)
+  array : (lo hi : ℕ) (d : List ℕ) → Sorted (Kind.arrays lo hi) (Value.string d)
+  text : (lo hi : ℕ) (d : List ℕ) → Sorted (Kind.texts lo hi) (Value.string d)
+  version : (a b c : ℕ) → Sorted Kind.versions (Value.release a b c)
+  word : (d : List ℕ) → Sorted Kind.words (Value.string d)
+
+by-sort : (k : Kind) (v : Value) → Of (sortFor k) v → Sorted k v
+by-sort (Kind.wholes lo hi) v (number z) = whole lo hi z
+by-sort Kind.reals v (figure x) = real x
+by-sort Kind.flags v (mark b) = flag b
+by-sort Kind.places v (position x y z) = place x y z
+by-sort (Kind.arrays lo hi) v (string d) = array lo hi d
+by-sort (Kind.texts lo hi) v (string d) = text lo hi d
+by-sort Kind.versions v (release a b c) = version a b c
+by-sort Kind.words v (string d) = word d
+
+module _ (k : Kind) (v : Value) (t : T (within k v)) where
+  pub sorted : Sorted k v
+  unfolding within
+  sorted = by-sort k v (subst (λ (n : ℕ). Of n v) (eqb→eq (sortOf v) (sortFor k) (both-left (eqb (sortOf v) (sortFor k)) (inBounds k v) t)) (of-sort v))
+
+  pub bounds : T (inBounds k v)
+  unfolding within
+  bounds = both-right (eqb (sortOf v) (sortFor k)) (inBounds k v) t
+
+-- a kind whose values have a form
+abbrev pub isHeld : Kind → Bool
+isHeld (Kind.wholes lo hi) = leb lo (2 ^ 63) && ltb hi (2 ^ 64)
+isHeld Kind.reals = true
+isHeld Kind.flags = true
+isHeld Kind.places = true
+isHeld (Kind.arrays lo hi) = ltb hi (2 ^ 16)
+isHeld (Kind.texts lo hi) = ltb hi (2 ^ 16)
+isHeld Kind.versions = true
+isHeld Kind.words = true
+isHeld Kind.maps = true
+
+abbrev allHeld : List Kind → Bool
+allHeld [] = true
+allHeld (k ∷ ks) = isHeld k && allHeld ks
+
+held-in : (ks : List Kind) → T (allHeld ks) → (n : ℕ) → T (isHeld (kindIn ks n))
+unfolding kindIn
+held-in [] t n = tt
+held-in (k ∷ ks) t zero = both-left (isHeld k) (allHeld ks) t
+held-in (k ∷ ks) t (suc n) = held-in ks (both-right (isHeld k) (allHeld ks) t) n
+
+pub kinds-held : (n : ℕ) → T (isHeld (kindOf n))
+unfolding kinds
+kinds-held n = held-in kinds tt n

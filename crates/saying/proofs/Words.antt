@@ -1,0 +1,145 @@
+-- The bytes that a record says of a key are few: the range says so, or the key is that of a word, of which only `command` has a row, and the names of the
+-- commands have at most nine bytes. So all that a record says in its range reads back. Assumes nothing.
+use mathlib.Core.Path.{_≡_, refl, sym, ap, subst, _∙_}
+use mathlib.Core.Bool.{Bool, true, false, not, _&&_}
+use mathlib.Core.List.{List, [], _∷_}
+use mathlib.Core.Option.{Option, some, none}
+use Prim.Native.Nat.{ℕ, zero, suc, _^_, _≤_, _<_}
+use native.Mathlib.Omega.{arith}
+use lib.Dec.{T, leb, leb→le, ltb→lt}
+use lib.ListN.{length}
+use lib.Pow.{areBytes}
+use Rattle.octets.specs.Choice.{either}
+use Rattle.octets.proofs.Ranges.{both-left, both-right, is-false, true-false}
+use Rattle.element.specs.Meaning.{meaningOf}
+use Rattle.names.specs.Names.{sameBytes, commands, nameAt}
+use Rattle.names.proofs.Same.{same-eq}
+use Rattle.field.specs.Kind.{Kind, Value, kinds, kindIn, kindOf}
+use Rattle.field.specs.Judge.{judge}
+use Rattle.message.specs.Fields.{Field, lists}
+use Rattle.message.specs.Record.{stringOf}
+use Rattle.message.specs.declared.Message.{Message}
+use Rattle.message.proofs.KeyKinds.{kindFor}
+use Rattle.saying.specs.Says.{Row, rowsOf, partIn, saysOf}
+use Rattle.saying.specs.Fits.{isSized, inBounds, within}
+use Rattle.saying.specs.Written.{treeOf}
+use Rattle.saying.proofs.Shown.{keptBy}
+use Rattle.saying.proofs.Sorts.{Sorted, sorted, bounds, isHeld, kinds-held}
+use Rattle.saying.proofs.Sorts.Sorted.{whole, real, flag, place, array, text, version, word}
+use Rattle.saying.proofs.Back.{back-of}
+
+-- the names of the commands
+abbrev allFew : List (List ℕ) → Bool
+allFew [] = true
+allFew (n ∷ ns) = leb (length n) 9 && allFew ns
+
+few-in : (ns : List (List ℕ)) → T (allFew ns) → (c : ℕ) → length (nameAt ns c) ≤ 9
+unfolding nameAt
+few-in [] t c = omega arith
+few-in (n ∷ ns) t zero = leb→le (length n) 9 (both-left (leb (length n) 9) (allFew ns) t)
+few-in (n ∷ ns) t (suc c) = few-in ns (both-right (leb (length n) 9) (allFew ns) t) c
+
+pub name-few : (c : ℕ) → length (nameAt commands c) ≤ 9
+unfolding commands
+name-few c = few-in commands tt c
+
+-- keys of words
+abbrev pub isWord : Kind → Bool
+isWord (Kind.wholes lo hi) = false
+isWord Kind.reals = false
+isWord Kind.flags = false
+isWord Kind.places = false
+isWord (Kind.arrays lo hi) = false
+isWord (Kind.texts lo hi) = false
+isWord Kind.versions = false
+isWord Kind.words = true
+isWord Kind.maps = false
+
+unfoldable isWordKey : List ℕ → Bool
+isWordKey k = isWord (kindOf (kindFor k))
+
+abbrev wordless : List Row → Bool
+wordless [] = true
+wordless (r ∷ rs) = not (isWordKey (r .key)) && wordless rs
+
+-- rows without one say nothing of a word
+apart-from : (r : Row) (k : List ℕ) → T (not (isWordKey (r .key))) → isWordKey k ≡ true → sameBytes (r .key) k ≡ false
+apart-from r k t w = go (sameBytes (r .key) k) refl
+  where
+    go : (b : Bool) → sameBytes (r .key) k ≡ b → sameBytes (r .key) k ≡ false
+    go true e = true-false (sym w ∙ ap isWordKey (sym (same-eq (r .key) k e)) ∙ sym (is-false (isWordKey (r .key)) t))
+    go false e = e
+
+unspoken : (rs : List Row) (k : List ℕ) → T (wordless rs) → isWordKey k ≡ true → partIn rs k .said ≡ none
+unfolding partIn
+unspoken [] k t w = refl
+unspoken (r ∷ rs) k t w =
+    rw (apart-from r k (both-left (not (isWordKey (r .key))) (wordless rs) t) w)
+    (unspoken rs k (both-right (not (isWordKey (r .key))) (wordless rs) t) w)
+
+-- so the first row says it, where no other has such a key
+only-first : (r : Row) (rs : List Row) (k : List ℕ) (v : Value) → T (wordless rs) → isWordKey k ≡ true → partIn (r ∷ rs) k .said ≡ some v → r .part .said ≡ some v
+unfolding partIn
+only-first r rs k v t w = go (sameBytes (r .key) k)
+  where
+    go : (b : Bool) → either b (λ _. r .part) (λ _. partIn rs k) .said ≡ some v → r .part .said ≡ some v
+    go true e = e
+    go false e = let n = unspoken rs k t w in let z : _≡_ {A = ℕ} 0 1 = cc in absurd (omega arith)
+
+abbrev firstOf : List Row → Option Value
+firstOf [] = none
+firstOf (r ∷ rs) = r .part .said
+
+abbrev othersOf : List Row → List Row
+othersOf [] = []
+othersOf (r ∷ rs) = rs
+
+only-command : (rs : List Row) (k : List ℕ) (v : Value) → T (wordless (othersOf rs)) → isWordKey k ≡ true → partIn rs k .said ≡ some v → firstOf rs ≡ some v
+unfolding partIn
+only-command [] k v t w e = e
+only-command (r ∷ rs) k v t w e = only-first r rs k v t w e
+
+few-by : {n : Kind} {v : Value} → Sorted n v → T (isHeld n) → T (inBounds n v) → (isWord n ≡ true → length (stringOf v) ≤ 9) → length (stringOf v) < 2 ^ 16
+few-by (whole lo hi z) h t w = omega arith
+few-by (real x) h t w = omega arith
+few-by (flag b) h t w = omega arith
+few-by (place x y z) h t w = omega arith
+few-by (array lo hi d) h t w =
+    omega (arith, ltb→lt hi (2 ^ 16) h, leb→le (length d) hi (both-right (leb lo (length d)) (leb (length d) hi) (both-left (isSized lo hi d) (areBytes d) t)))
+few-by (text lo hi d) h t w = omega (arith, ltb→lt hi (2 ^ 16) h, leb→le (length d) hi (both-right (leb lo (length d)) (leb (length d) hi) t))
+few-by (version a b c) h t w = omega arith
+few-by (word d) h t w = omega (arith, w refl)
+
+module _ (m : Message) where
+  others-wordless : T (wordless (othersOf (rowsOf m)))
+  unfolding rowsOf isWordKey kindFor lists kinds kindIn
+  others-wordless = tt
+
+  first-is : firstOf (rowsOf m) ≡ some (Value.string (nameAt commands (m .command)))
+  unfolding rowsOf
+  first-is = refl
+
+  module _ (k : List ℕ) (v : Value) (says : saysOf m k ≡ some v) where
+    pub word-few : isWord (kindOf (kindFor k)) ≡ true → length (stringOf v) ≤ 9
+    unfolding isWordKey
+    word-few w =
+        let e : Value.string (nameAt commands (m .command)) ≡ v = cc (first-is, only-command (rowsOf m) k v others-wordless w says) in
+        subst (λ (x : Value). length (stringOf x) ≤ 9) e (name-few (m .command))
+
+    pub said-few : T (within (kindOf (kindFor k)) v) → length (stringOf v) < 2 ^ 16
+    said-few t =
+        let n = kindOf (kindFor k) in
+        few-by (sorted n v t) (kinds-held (kindFor k)) (bounds n v t) word-few
+
+    -- what is said of a key reads back
+    pub back-at : T (within (kindOf (kindFor k)) v)
+        → judge (kindOf (kindFor k)) (meaningOf (treeOf (kindOf (kindFor k)) v)) ≡ some (keptBy (kindOf (kindFor k)) v)
+    back-at t = let l = said-few t in back-of (kindFor k) v (omega arith) t
+
+  -- the same for a field whose kind is that of its key
+  module _ (f : Field) (v : Value) (agrees : f .kind ≡ kindFor (f .key)) (says : saysOf m (f .key) ≡ some v) (t : T (within (kindOf (f .kind)) v)) where
+    pub field-few : length (stringOf v) < 2 ^ 16
+    field-few = said-few (f .key) v says (rw agrees at t)
+
+    pub back-in : judge (kindOf (f .kind)) (meaningOf (treeOf (kindOf (f .kind)) v)) ≡ some (keptBy (kindOf (f .kind)) v)
+    back-in = let l = field-few in back-of (f .kind) v (omega arith) t

@@ -1,0 +1,103 @@
+-- Document 01's 15 for a record to write: the fields of its command are in their ranges, and nothing else is in it.
+use Prim.Native.Nat.{ℕ}
+use mathlib.Core.Bool.{Bool, true, false, not, _&&_, _||_}
+use mathlib.Core.List.{List, [], _∷_}
+use mathlib.Core.Option.{Option, some, none}
+use lib.Dec.{eqb, leb, ltb}
+use lib.Ieee.{Float, binary64, toBits, fits as holds}
+use lib.ListN.{length}
+use lib.Pow.{areBytes}
+use Rattle.octets.specs.Choice.{either}
+use Rattle.names.specs.Names.{sameBytes}
+use Rattle.number.specs.Number.{finite}
+use Rattle.field.specs.declared.Position.{Position}
+use Rattle.field.specs.Kind.{Kind, Value, kindOf}
+use Rattle.field.specs.Judge.{inRange}
+use Rattle.field.specs.Cell.{figureOf}
+use Rattle.message.specs.Fields.{Field, fieldsOf}
+use Rattle.message.specs.Record.{idOf, stringOf, positionOf}
+use Rattle.message.specs.declared.Message.{Message}
+use Rattle.saying.specs.Says.{Part, Row, rowsOf, partOf}
+
+-- a finite real of 64 bits
+abbrev pub isReal : Float → Bool
+isReal x = finite binary64 (toBits binary64 x) && holds binary64 x
+
+abbrev pub isPlace : Position → Bool
+isPlace p = isReal (p .latitude) && (isReal (p .longitude) && isReal (p .altitude))
+
+abbrev pub isSized : ℕ → ℕ → List ℕ → Bool
+isSized lo hi d = leb lo (length d) && leb (length d) hi
+
+abbrev pub isRelease : Value → Bool
+isRelease Value.nothing = true
+isRelease (Value.number z) = true
+isRelease (Value.figure x) = true
+isRelease (Value.mark b) = true
+isRelease (Value.position x y z) = true
+isRelease (Value.string d) = true
+isRelease (Value.release a b c) = leb a 65535 && (leb b 65535 && leb c 65535)
+
+-- the ranges of the kinds
+abbrev pub inBounds : Kind → Value → Bool
+inBounds (Kind.wholes lo hi) v = inRange lo hi (idOf v)
+inBounds Kind.reals v = isReal (figureOf v)
+inBounds Kind.flags v = true
+inBounds Kind.places v = isPlace (positionOf v)
+inBounds (Kind.arrays lo hi) v = isSized lo hi (stringOf v) && areBytes (stringOf v)
+inBounds (Kind.texts lo hi) v = isSized lo hi (stringOf v)
+inBounds Kind.versions v = isRelease v
+inBounds Kind.words v = true
+inBounds Kind.maps v = true
+
+-- the sort of value that a kind has; a map is not kept
+abbrev pub sortFor : Kind → ℕ
+sortFor (Kind.wholes lo hi) = 1
+sortFor Kind.reals = 2
+sortFor Kind.flags = 3
+sortFor Kind.places = 4
+sortFor (Kind.arrays lo hi) = 5
+sortFor (Kind.texts lo hi) = 5
+sortFor Kind.versions = 6
+sortFor Kind.words = 5
+sortFor Kind.maps = 7
+
+abbrev pub sortOf : Value → ℕ
+sortOf Value.nothing = 0
+sortOf (Value.number z) = 1
+sortOf (Value.figure x) = 2
+sortOf (Value.mark b) = 3
+sortOf (Value.position x y z) = 4
+sortOf (Value.string d) = 5
+sortOf (Value.release a b c) = 6
+
+unfoldable pub within : Kind → Value → Bool
+within k v = eqb (sortOf v) (sortFor k) && inBounds k v
+
+-- a mandatory field is said
+abbrev pub saidFits : Field → Option Value → Bool
+saidFits f none = not (f .must)
+saidFits f (some v) = within (kindOf (f .kind)) v
+
+abbrev pub fieldFits : Field → Part → Bool
+fieldFits f p = p .clean && saidFits f (p .said)
+
+unfoldable pub allFit : List Field → Message → Bool
+allFit [] m = true
+allFit (f ∷ l) m = fieldFits f (partOf m (f .key)) && allFit l m
+
+unfoldable pub isIn : List Field → List ℕ → Bool
+isIn [] k = false
+isIn (f ∷ l) k = sameBytes (f .key) k || isIn l k
+
+-- what the command has not, is zero
+unfoldable pub othersBlank : List Field → List Row → Bool
+othersBlank l [] = true
+othersBlank l (r ∷ rs) = (isIn l (r .key) || r .part .blank) && othersBlank l rs
+
+-- one of the 21 commands, its fields in their ranges, zeros besides, and no responseExp without dlOpen
+unfoldable pub fits : Message → Bool
+fits m =
+    ltb (m .command) 21
+    && (allFit (fieldsOf (m .command)) m
+    && (othersBlank (fieldsOf (m .command)) (rowsOf m) && (not (m .«response_exp») || m .«dl_open»)))

@@ -1,0 +1,61 @@
+-- Document 01, "Elements": what is written for a record, keys in listed order, optional fields only where present, D fields never.
+use Prim.Native.Nat.{ℕ}
+use mathlib.Core.Bool.{Bool, true, false}
+use mathlib.Core.List.{List, [], _∷_, _++_}
+use mathlib.Core.Option.{Option, some, none}
+use lib.ListN.{length}
+use Rattle.octets.specs.Choice.{either}
+use Rattle.octets.specs.Bytes.{littleBytes}
+use Rattle.frame.specs.Frame.{identifier}
+use Rattle.element.specs.Tree.{Tree, Pairs, bytesOf}
+use Rattle.element.specs.Tree.Tree.{leaf}
+use Rattle.element.specs.Tree.Pairs.{end, pair}
+use Rattle.forms.specs.Shortest.{wholeTree, realTree, markTree, textTree, octetsTree, positionTree, mapTree, versionText}
+use Rattle.field.specs.Kind.{Kind, Value, kindOf}
+use Rattle.message.specs.Fields.{Field, fieldsOf}
+use Rattle.message.specs.declared.Message.{Message}
+use Rattle.saying.specs.Says.{saysOf}
+
+-- bytes are an array of numbers in some fields and a text in the others
+abbrev pub asArray : Kind → Bool
+asArray (Kind.wholes lo hi) = false
+asArray Kind.reals = false
+asArray Kind.flags = false
+asArray Kind.places = false
+asArray (Kind.arrays lo hi) = true
+asArray (Kind.texts lo hi) = false
+asArray Kind.versions = false
+asArray Kind.words = false
+asArray Kind.maps = false
+
+-- a value of a kind
+unfoldable pub treeOf : Kind → Value → Tree
+treeOf k Value.nothing = leaf 0xC0 [] []
+treeOf k (Value.number z) = wholeTree z
+treeOf k (Value.figure x) = realTree x
+treeOf k (Value.mark b) = markTree b
+treeOf k (Value.position x y z) = positionTree x y z
+treeOf k (Value.string d) = either (asArray k) (λ _. octetsTree d) (λ _. textTree d)
+treeOf k (Value.release a b c) = textTree (versionText a b c)
+
+abbrev pub pairBy : Field → Option Value → Pairs → Pairs
+pairBy f none ps = ps
+pairBy f (some v) ps = pair (textTree (f .key)) (treeOf (kindOf (f .kind)) v) ps
+
+-- the pairs of the fields that are said
+unfoldable pub pairsFrom : List Field → (List ℕ → Option Value) → Pairs
+pairsFrom [] says = end
+pairsFrom (f ∷ l) says = pairBy f (says (f .key)) (pairsFrom l says)
+
+abbrev pub treeFor : Message → Tree
+treeFor m = mapTree (pairsFrom (fieldsOf (m .command)) (saysOf m))
+
+unfoldable pub payloadFor : Message → List ℕ
+payloadFor m = bytesOf (treeFor m)
+
+-- identifier, size, payload
+unfoldable pub frameOf : List ℕ → List ℕ
+frameOf d = identifier ++ (littleBytes 4 (length d) ++ d)
+
+abbrev pub frameFor : Message → List ℕ
+frameFor m = frameOf (payloadFor m)

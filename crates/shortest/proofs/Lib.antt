@@ -1,0 +1,6 @@
+pub mod Rows
+pub mod Wholes
+pub mod Heads
+pub mod Values
+pub mod Many
+pub mod NoShorter

@@ -1,0 +1,121 @@
+-- Arrays and maps with their shortest heads are lawful where what they hold is, and mean the list and the table of it.
+-- Bytes as an array of numbers: as many elements as bytes, in at most twice as many. Assumes nothing.
+use mathlib.Core.Path.{_≡_, refl, ap}
+use mathlib.Core.List.{List, [], _∷_}
+use Prim.Native.Nat.{ℕ, suc, _+_, _*_, _^_, _≤_, _<_}
+use native.Mathlib.Omega.{arith}
+use lib.Dec.{T, ltb, ltb→lt}
+use lib.IntN.{pos}
+use lib.ListN.{length, length-append}
+use lib.Pow.{areBytes}
+use Rattle.octets.proofs.Ranges.{both-left, both-right}
+use Rattle.element.specs.declared.Shape.the-variants.{Array, Map}
+use Rattle.element.specs.Lead.{Class}
+use Rattle.element.specs.Tree.{Trees, Pairs, bytesOf, bytesOfAll, bytesOfPairs, countOf, countOfAll, countOfPairs, depthOf, depthOfAll, depthOfPairs, partsOf, pairsOf, shapeOfTree, Lawful, LawfulAll, LawfulPairs}
+use Rattle.element.specs.Meaning.{meaningOf, meaningOfAll, meaningOfPairs}
+use Rattle.element.specs.Meaning.Element.{list, table}
+use Rattle.forms.specs.Shortest.{wholeTree, arrayHead, arrayTree, mapHead, mapTree, numberTrees}
+use Rattle.shortest.proofs.Wholes.{whole-count, whole-depth, pos-lawful, byte-length}
+use Rattle.shortest.proofs.Heads.{head-lawful, many-size, many-size-few, many-size-two, array-heads, map-heads}
+
+-- the bytes of length behind the lead byte
+module _ (n : ℕ) where
+  pub array-size : length (arrayHead n .size) ≤ 4
+  array-size = many-size 0x90 0xDC n
+
+  pub array-size-few : n < 16 → length (arrayHead n .size) ≡ 0
+  array-size-few = many-size-few 0x90 0xDC n
+
+  pub array-size-two : n < 2 ^ 16 → length (arrayHead n .size) ≤ 2
+  array-size-two = many-size-two 0x90 0xDC n
+
+  pub map-size : length (mapHead n .size) ≤ 4
+  map-size = many-size 0x80 0xDE n
+
+  pub map-size-few : n < 16 → length (mapHead n .size) ≡ 0
+  map-size-few = many-size-few 0x80 0xDE n
+
+  pub map-size-two : n < 2 ^ 16 → length (mapHead n .size) ≤ 2
+  map-size-two = many-size-two 0x80 0xDE n
+
+module _ (ts : Trees) where
+  pub array-means : meaningOf (arrayTree ts) ≡ list (meaningOfAll ts)
+  unfolding arrayTree meaningOf
+  array-means = refl
+
+  pub array-count : countOf (arrayTree ts) ≡ 1 + countOfAll ts
+  unfolding arrayTree countOf
+  array-count = refl
+
+  pub array-depth : depthOf (arrayTree ts) ≡ 1 + depthOfAll ts
+  unfolding arrayTree depthOf
+  array-depth = refl
+
+  pub array-length : length (bytesOf (arrayTree ts)) ≡ 1 + length (arrayHead (partsOf ts) .size) + length (bytesOfAll ts)
+  unfolding arrayTree bytesOf
+  array-length = omega (arith, length-append (arrayHead (partsOf ts) .size) (bytesOfAll ts))
+
+  pub array-shape : partsOf ts < 2 ^ 32 → shapeOfTree (arrayTree ts) ≡ Array
+  unfolding arrayTree
+  array-shape h = head-lawful Class.array (partsOf ts) (arrayHead (partsOf ts)) (array-heads (partsOf ts) h) .shape-is
+
+  pub array-lawful : partsOf ts < 2 ^ 32 → LawfulAll ts → Lawful (arrayTree ts)
+  unfolding arrayTree Lawful
+  array-lawful h L = (head-lawful Class.array (partsOf ts) (arrayHead (partsOf ts)) (array-heads (partsOf ts) h), L)
+
+module _ (ps : Pairs) where
+  pub map-means : meaningOf (mapTree ps) ≡ table (meaningOfPairs ps)
+  unfolding mapTree meaningOf
+  map-means = refl
+
+  pub map-count : countOf (mapTree ps) ≡ 1 + countOfPairs ps
+  unfolding mapTree countOf
+  map-count = refl
+
+  pub map-depth : depthOf (mapTree ps) ≡ 1 + depthOfPairs ps
+  unfolding mapTree depthOf
+  map-depth = refl
+
+  pub map-length : length (bytesOf (mapTree ps)) ≡ 1 + length (mapHead (pairsOf ps) .size) + length (bytesOfPairs ps)
+  unfolding mapTree bytesOf
+  map-length = omega (arith, length-append (mapHead (pairsOf ps) .size) (bytesOfPairs ps))
+
+  pub map-shape : pairsOf ps < 2 ^ 32 → shapeOfTree (mapTree ps) ≡ Map
+  unfolding mapTree
+  map-shape h = head-lawful Class.map (pairsOf ps) (mapHead (pairsOf ps)) (map-heads (pairsOf ps) h) .shape-is
+
+  pub map-lawful : pairsOf ps < 2 ^ 32 → LawfulPairs ps → Lawful (mapTree ps)
+  unfolding mapTree Lawful
+  map-lawful h L = (head-lawful Class.map (pairsOf ps) (mapHead (pairsOf ps)) (map-heads (pairsOf ps) h), L)
+
+-- bytes as numbers
+pub numbers-lawful : (d : List ℕ) → LawfulAll (numberTrees d)
+unfolding numberTrees Lawful
+numbers-lawful [] = tt
+numbers-lawful (b ∷ d) = (pos-lawful b, numbers-lawful d)
+
+pub numbers-parts : (d : List ℕ) → partsOf (numberTrees d) ≡ length d
+unfolding numberTrees partsOf
+numbers-parts [] = refl
+numbers-parts (b ∷ d) = ap suc (numbers-parts d)
+
+pub numbers-count : (d : List ℕ) → countOfAll (numberTrees d) ≡ length d
+unfolding numberTrees countOf
+numbers-count [] = refl
+numbers-count (b ∷ d) = omega (arith, whole-count (pos b), numbers-count d)
+
+pub numbers-depth : (d : List ℕ) → depthOfAll (numberTrees d) ≤ 1
+unfolding numberTrees depthOf
+numbers-depth [] = omega arith
+numbers-depth (b ∷ d) = omega (arith, whole-depth (pos b), numbers-depth d)
+
+pub numbers-length : (d : List ℕ) → T (areBytes d) → length (bytesOfAll (numberTrees d)) ≤ 2 * length d
+unfolding numberTrees bytesOf
+numbers-length [] t = omega arith
+numbers-length (b ∷ d) t =
+    omega (
+      arith,
+      length-append (bytesOf (wholeTree (pos b))) (bytesOfAll (numberTrees d)),
+      byte-length b (ltb→lt b 256 (both-left (ltb b 256) (areBytes d) t)),
+      numbers-length d (both-right (ltb b 256) (areBytes d) t),
+    )

@@ -1,0 +1,5 @@
+pub mod Pairs
+pub mod Counts
+pub mod Bodies
+pub mod Titles
+pub mod Framing

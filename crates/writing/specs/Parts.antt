@@ -1,0 +1,60 @@
+-- For the private writers: a record's message part by part. No statement of a public function rests on this page.
+use Prim.Native.Nat.{ℕ}
+use mathlib.Core.Bool.{Bool, true, false}
+use mathlib.Core.List.{List, [], _∷_, _++_}
+use mathlib.Core.Option.{Option, some, none}
+use lib.ListN.{drop}
+use Rattle.octets.specs.Choice.{either}
+use Rattle.element.specs.Tree.{bytesOf, pairsOf}
+use Rattle.forms.specs.Shortest.{textTree}
+use Rattle.forms.specs.Put.{Put, putParts, mapParts, wholeParts, realParts, markParts, textParts, octetsParts, positionParts, versionParts}
+use Rattle.field.specs.Kind.{Kind, Value, kindOf}
+use Rattle.message.specs.Fields.{Field, headed, received, fieldsOf}
+use Rattle.message.specs.declared.Message.{Message}
+use Rattle.saying.specs.Says.{saysOf}
+use Rattle.saying.specs.Written.{asArray, pairsFrom}
+
+unfoldable pub valueParts : Kind → Value → List (List ℕ)
+valueParts k Value.nothing = (0xC0 ∷ []) ∷ []
+valueParts k (Value.number z) = wholeParts z
+valueParts k (Value.figure x) = realParts x
+valueParts k (Value.mark b) = markParts b
+valueParts k (Value.position x y z) = positionParts x y z
+valueParts k (Value.string d) = either (asArray k) (λ _. octetsParts d) (λ _. textParts d)
+valueParts k (Value.release a b c) = versionParts a b c
+
+-- a key as it is written and the parts of its value, where there is one
+abbrev pub pairOf : Kind → List ℕ → Option Value → List (List ℕ)
+pairOf k key none = []
+pairOf k key (some v) = key ∷ valueParts k v
+
+-- the same for a value that is there or not
+unfoldable pub pairIf : Bool → Kind → List ℕ → Value → List (List ℕ)
+pairIf here k key v = pairOf k key (either here (λ _. some v) (λ _. none))
+
+abbrev pub pairBy : Field → Option Value → List (List ℕ)
+pairBy f o = pairOf (kindOf (f .kind)) (bytesOf (textTree (f .key))) o
+
+unfoldable pub partsFrom : List Field → (List ℕ → Option Value) → List (List ℕ)
+partsFrom [] says = []
+partsFrom (f ∷ l) says = pairBy f (says (f .key)) ++ partsFrom l says
+
+-- the fields of a record's message from the i-th of a command's list on
+unfoldable pub fieldsFrom : ℕ → ℕ → Message → List (List ℕ)
+fieldsFrom c i m = partsFrom (drop i (fieldsOf c)) (saysOf m)
+
+-- what is told of a packet that was received, from the i-th field on
+unfoldable pub packetFrom : ℕ → Message → List (List ℕ)
+packetFrom i m = partsFrom (drop i (received [])) (saysOf m)
+
+abbrev pub oneIf : Bool → ℕ
+oneIf true = 1
+oneIf false = 0
+
+-- how many pairs a record's message has by a command's list
+unfoldable pub countBy : ℕ → Message → ℕ
+countBy c m = pairsOf (pairsFrom (fieldsOf c) (saysOf m))
+
+-- the map's head, command and opId, and the other fields
+unfoldable pub payloadParts : Message → List (List ℕ)
+payloadParts m = (mapParts (countBy (m .command) m) ++ partsFrom (headed []) (saysOf m)) ++ fieldsFrom (m .command) 2 m
