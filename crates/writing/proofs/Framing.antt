@@ -102,7 +102,7 @@ payload-bytes m =
     let says = saysOf m in
     let h = headBytes (mapHead (pairsOf (pairsFrom l says))) in
     let e : (h ∷ partsFrom (headed []) says) ++ partsFrom (drop 2 l) says ≡ h ∷ partsFrom l says =
-        ap (λ (ps : List (List ℕ)). h ∷ ps) (sym (parts-append (headed []) (drop 2 l) says) ∙ ap (λ (x : List Field). partsFrom x says) (begins (m .command))) in
+    ap (λ (ps : List (List ℕ)). h ∷ ps) (sym (parts-append (headed []) (drop 2 l) says) ∙ ap (λ (x : List Field). partsFrom x says) (begins (m .command))) in
     ap joined e ∙ ap (λ (x : List ℕ). h ++ x) (fields-bytes l says)
 
 -- the payload stands at the start of 1,000 bytes

@@ -86,7 +86,6 @@ parts-append (f ∷ xs) ys says =
     ap (λ (l : List (List ℕ)). pairBy f (says (f .key)) ++ l) (parts-append xs ys says)
     ∙ sym (append-assoc (pairBy f (says (f .key))) (partsFrom xs says) (partsFrom ys says))
 
-
 -- fields behind what is told of a packet
 pub behind-packet : (m : Message) (l : List Field) (a b : Put) → b ≡ putParts (packetFrom 0 m ++ partsFrom l (saysOf m)) a → b ≡ putParts (partsFrom (received l) (saysOf m)) a
 unfolding packetFrom

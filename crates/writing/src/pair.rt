@@ -125,7 +125,13 @@ pub fn place(room: &mut [u8], at: usize, key: &[u8], x: MaybePosition) -> usize
         return at;
     }
     let next = put_run(room, at, key);
-    put_position(room, next, x.value.latitude, x.value.longitude, x.value.altitude)
+    put_position(
+        room,
+        next,
+        x.value.latitude,
+        x.value.longitude,
+        x.value.altitude,
+    )
 }
 
 pub fn version(room: &mut [u8], at: usize, key: &[u8], x: MaybeVersion) -> usize

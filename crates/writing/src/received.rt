@@ -53,7 +53,13 @@ fn put_packet(room: &mut [u8], at: usize, m: Message) -> usize
 fn packet_from_duration(room: &mut [u8], at: usize, m: Message) -> usize
     ensures { λ r. ⌜ _≡_ {A = Put} (put (now (room .exit)) r) (putParts (packetFrom 2 m) (put (now (room .entry)) at)) ⌝ }
 {
-    let a = word(room, at, m.rx_duration.here, b"\xAArxDuration", m.rx_duration.value);
+    let a = word(
+        room,
+        at,
+        m.rx_duration.here,
+        b"\xAArxDuration",
+        m.rx_duration.value,
+    );
     let b = count(room, a, b"\xA9packetCnt", m.packet_cnt);
     packet_from_signal(room, b, m)
 }
@@ -70,5 +76,12 @@ fn packet_from_eq_snr(room: &mut [u8], at: usize, m: Message) -> usize
     ensures { λ r. ⌜ _≡_ {A = Put} (put (now (room .exit)) r) (putParts (packetFrom 6 m) (put (now (room .entry)) at)) ⌝ }
 {
     let a = real(room, at, m.signal.has_eq_snr, b"\xA5eqSnr", m.signal.eq_snr);
-    text(room, a, m.profile_len != 0, b"\xA7profile", &m.profile, m.profile_len)
+    text(
+        room,
+        a,
+        m.profile_len != 0,
+        b"\xA7profile",
+        &m.profile,
+        m.profile_len,
+    )
 }
