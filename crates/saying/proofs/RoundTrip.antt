@@ -68,61 +68,61 @@ module _ (back : ReadsBack) (m : Message) (t : T (fits m)) where
   unfolding messageOf rowsOf partIn kindFor lists kinds kindIn
   message-back = λ i. record {
     command = m .command;
-    «op_id» = id-back (2 ^ 63) (2 ^ 63 - 1) (m .«op_id») (look (bytes "opId")) (shown (bytes "opId")) i;
-    version = maybe-version-back (m .version) (look (bytes "version")) (shown (bytes "version")) i;
-    «bs_eui» = word-back 0 (2 ^ 64 - 1) (m .«bs_eui») (look (bytes "bsEui")) (shown (bytes "bsEui")) i;
-    bidi = mark-back (m .bidi) (look (bytes "bidi")) (shown (bytes "bidi")) i;
-    «geo_location» = maybe-place-back (m .«geo_location») (look (bytes "geoLocation")) (shown (bytes "geoLocation")) i;
-    «sn_bs_uuid» = fixed-back 16 (m .«sn_bs_uuid») (look (bytes "snBsUuid")) (shown (bytes "snBsUuid")) i;
-    «sn_bs_op_id» = maybe-id-back 0 (2 ^ 63 - 1) (m .«sn_bs_op_id») (look (bytes "snBsOpId")) (shown (bytes "snBsOpId")) i;
-    «sn_sc_op_id» = maybe-id-back (2 ^ 63) 0 (m .«sn_sc_op_id») (look (bytes "snScOpId")) (shown (bytes "snScOpId")) i;
-    «sc_eui» = word-back 0 (2 ^ 64 - 1) (m .«sc_eui») (look (bytes "scEui")) (shown (bytes "scEui")) i;
-    «sn_resume» = mark-back (m .«sn_resume») (look (bytes "snResume")) (shown (bytes "snResume")) i;
-    «sn_sc_uuid» = fixed-back 16 (m .«sn_sc_uuid») (look (bytes "snScUuid")) (shown (bytes "snScUuid")) i;
-    code = id-back (2 ^ 31) (2 ^ 31 - 1) (m .code) (look (bytes "code")) (shown (bytes "code")) i;
-    «message_len» = string-back 64 (m .«message_len») (m .message) (Kind.texts 0 64) refl (look (bytes "message")) (shown (bytes "message")) .1 i;
-    message = string-back 64 (m .«message_len») (m .message) (Kind.texts 0 64) refl (look (bytes "message")) (shown (bytes "message")) .0 i;
-    time = word-back 0 (2 ^ 64 - 1) (m .time) (look (bytes "time")) (shown (bytes "time")) i;
-    «duty_cycle» = real-back (m .«duty_cycle») (look (bytes "dutyCycle")) (shown (bytes "dutyCycle")) i;
-    uptime = maybe-word-back 0 (2 ^ 64 - 1) (m .uptime) (look (bytes "uptime")) (shown (bytes "uptime")) i;
+    «op_id» = id-back (shown (bytes "opId")) i;
+    version = maybe-version-back (m .version) (shown (bytes "version")) i;
+    «bs_eui» = word-back (shown (bytes "bsEui")) i;
+    bidi = mark-back (shown (bytes "bidi")) i;
+    «geo_location» = maybe-place-back (m .«geo_location») (shown (bytes "geoLocation")) i;
+    «sn_bs_uuid» = fixed-back (shown (bytes "snBsUuid")) i;
+    «sn_bs_op_id» = maybe-id-back (m .«sn_bs_op_id») (shown (bytes "snBsOpId")) i;
+    «sn_sc_op_id» = maybe-id-back (m .«sn_sc_op_id») (shown (bytes "snScOpId")) i;
+    «sc_eui» = word-back (shown (bytes "scEui")) i;
+    «sn_resume» = mark-back (shown (bytes "snResume")) i;
+    «sn_sc_uuid» = fixed-back (shown (bytes "snScUuid")) i;
+    code = id-back (shown (bytes "code")) i;
+    «message_len» = string-back 64 (m .«message_len») (m .message) (Kind.texts 0 64) refl (shown (bytes "message")) .1 i;
+    message = string-back 64 (m .«message_len») (m .message) (Kind.texts 0 64) refl (shown (bytes "message")) .0 i;
+    time = word-back (shown (bytes "time")) i;
+    «duty_cycle» = real-back (shown (bytes "dutyCycle")) i;
+    uptime = maybe-word-back (m .uptime) (shown (bytes "uptime")) i;
     temp = record {
-      here = maybe-real-back (m .temp .here) (m .temp .value) (look (bytes "temp")) (shown (bytes "temp")) .0 i;
-      value = maybe-real-back (m .temp .here) (m .temp .value) (look (bytes "temp")) (shown (bytes "temp")) .1 i;
+      here = maybe-real-back (m .temp .here) (m .temp .value) (shown (bytes "temp")) .0 i;
+      value = maybe-real-back (m .temp .here) (m .temp .value) (shown (bytes "temp")) .1 i;
     };
     «cpu_load» = record {
-      here = maybe-real-back (m .«cpu_load» .here) (m .«cpu_load» .value) (look (bytes "cpuLoad")) (shown (bytes "cpuLoad")) .0 i;
-      value = maybe-real-back (m .«cpu_load» .here) (m .«cpu_load» .value) (look (bytes "cpuLoad")) (shown (bytes "cpuLoad")) .1 i;
+      here = maybe-real-back (m .«cpu_load» .here) (m .«cpu_load» .value) (shown (bytes "cpuLoad")) .0 i;
+      value = maybe-real-back (m .«cpu_load» .here) (m .«cpu_load» .value) (shown (bytes "cpuLoad")) .1 i;
     };
     «mem_load» = record {
-      here = maybe-real-back (m .«mem_load» .here) (m .«mem_load» .value) (look (bytes "memLoad")) (shown (bytes "memLoad")) .0 i;
-      value = maybe-real-back (m .«mem_load» .here) (m .«mem_load» .value) (look (bytes "memLoad")) (shown (bytes "memLoad")) .1 i;
+      here = maybe-real-back (m .«mem_load» .here) (m .«mem_load» .value) (shown (bytes "memLoad")) .0 i;
+      value = maybe-real-back (m .«mem_load» .here) (m .«mem_load» .value) (shown (bytes "memLoad")) .1 i;
     };
-    «ep_eui» = word-back 0 (2 ^ 64 - 1) (m .«ep_eui») (look (bytes "epEui")) (shown (bytes "epEui")) i;
-    «rx_time» = word-back 0 (2 ^ 64 - 1) (m .«rx_time») (look (bytes "rxTime")) (shown (bytes "rxTime")) i;
-    «rx_duration» = maybe-word-back 0 (2 ^ 64 - 1) (m .«rx_duration») (look (bytes "rxDuration")) (shown (bytes "rxDuration")) i;
-    «packet_cnt» = word-back 0 (2 ^ 32 - 1) (m .«packet_cnt») (look (bytes "packetCnt")) (shown (bytes "packetCnt")) i;
+    «ep_eui» = word-back (shown (bytes "epEui")) i;
+    «rx_time» = word-back (shown (bytes "rxTime")) i;
+    «rx_duration» = maybe-word-back (m .«rx_duration») (shown (bytes "rxDuration")) i;
+    «packet_cnt» = word-back (shown (bytes "packetCnt")) i;
     signal = record {
-      snr = real-back (m .signal .snr) (look (bytes "snr")) (shown (bytes "snr")) i;
-      rssi = real-back (m .signal .rssi) (look (bytes "rssi")) (shown (bytes "rssi")) i;
-      «eq_snr» = maybe-real-back (m .signal .«has_eq_snr») (m .signal .«eq_snr») (look (bytes "eqSnr")) (shown (bytes "eqSnr")) .1 i;
-      «has_eq_snr» = maybe-real-back (m .signal .«has_eq_snr») (m .signal .«eq_snr») (look (bytes "eqSnr")) (shown (bytes "eqSnr")) .0 i;
+      snr = real-back (shown (bytes "snr")) i;
+      rssi = real-back (shown (bytes "rssi")) i;
+      «eq_snr» = maybe-real-back (m .signal .«has_eq_snr») (m .signal .«eq_snr») (shown (bytes "eqSnr")) .1 i;
+      «has_eq_snr» = maybe-real-back (m .signal .«has_eq_snr») (m .signal .«eq_snr») (shown (bytes "eqSnr")) .0 i;
     };
-    «profile_len» = maybe-string-back 16 (m .«profile_len») (m .profile) (Kind.texts 1 16) refl (look (bytes "profile")) (shown (bytes "profile")) .1 i;
-    profile = maybe-string-back 16 (m .«profile_len») (m .profile) (Kind.texts 1 16) refl (look (bytes "profile")) (shown (bytes "profile")) .0 i;
-    sign = fixed-back 4 (m .sign) (look (bytes "sign")) (shown (bytes "sign")) i;
-    «nwk_sn_key» = fixed-back 16 (m .«nwk_sn_key») (look (bytes "nwkSnKey")) (shown (bytes "nwkSnKey")) i;
-    «sh_addr» = word-back 0 0xFFFF (m .«sh_addr») (look (bytes "shAddr")) (shown (bytes "shAddr")) i;
-    «last_packet_cnt» = word-back 0 (2 ^ 32 - 1) (m .«last_packet_cnt») (look (bytes "lastPacketCnt")) (shown (bytes "lastPacketCnt")) i;
-    «dual_chan» = mark-back (m .«dual_chan») (look (bytes "dualChan")) (shown (bytes "dualChan")) i;
-    repetition = mark-back (m .repetition) (look (bytes "repetition")) (shown (bytes "repetition")) i;
-    «wide_carr_off» = mark-back (m .«wide_carr_off») (look (bytes "wideCarrOff")) (shown (bytes "wideCarrOff")) i;
-    «long_blk_dist» = mark-back (m .«long_blk_dist») (look (bytes "longBlkDist")) (shown (bytes "longBlkDist")) i;
-    «user_len» = string-back 245 (m .«user_len») (m .«user_data») (Kind.arrays 0 245) refl (look (bytes "userData")) (shown (bytes "userData")) .1 i;
-    «user_data» = string-back 245 (m .«user_len») (m .«user_data») (Kind.arrays 0 245) refl (look (bytes "userData")) (shown (bytes "userData")) .0 i;
-    format = unless-zero-back 0 0xFF (m .format) (look (bytes "format")) (shown (bytes "format")) i;
-    «dl_open» = mark-back (m .«dl_open») (look (bytes "dlOpen")) (shown (bytes "dlOpen")) i;
-    «response_exp» = mark-back (m .«response_exp») (look (bytes "responseExp")) (shown (bytes "responseExp")) i;
-    «dl_ack» = mark-back (m .«dl_ack») (look (bytes "dlAck")) (shown (bytes "dlAck")) i;
+    «profile_len» = maybe-string-back 16 (m .«profile_len») (m .profile) (Kind.texts 1 16) refl (shown (bytes "profile")) .1 i;
+    profile = maybe-string-back 16 (m .«profile_len») (m .profile) (Kind.texts 1 16) refl (shown (bytes "profile")) .0 i;
+    sign = fixed-back (shown (bytes "sign")) i;
+    «nwk_sn_key» = fixed-back (shown (bytes "nwkSnKey")) i;
+    «sh_addr» = word-back (shown (bytes "shAddr")) i;
+    «last_packet_cnt» = word-back (shown (bytes "lastPacketCnt")) i;
+    «dual_chan» = mark-back (shown (bytes "dualChan")) i;
+    repetition = mark-back (shown (bytes "repetition")) i;
+    «wide_carr_off» = mark-back (shown (bytes "wideCarrOff")) i;
+    «long_blk_dist» = mark-back (shown (bytes "longBlkDist")) i;
+    «user_len» = string-back 245 (m .«user_len») (m .«user_data») (Kind.arrays 0 245) refl (shown (bytes "userData")) .1 i;
+    «user_data» = string-back 245 (m .«user_len») (m .«user_data») (Kind.arrays 0 245) refl (shown (bytes "userData")) .0 i;
+    format = unless-zero-back (m .format) (shown (bytes "format")) i;
+    «dl_open» = mark-back (shown (bytes "dlOpen")) i;
+    «response_exp» = mark-back (shown (bytes "responseExp")) i;
+    «dl_ack» = mark-back (shown (bytes "dlAck")) i;
   }
 
   -- no responseExp without dlOpen
@@ -134,8 +134,8 @@ module _ (back : ReadsBack) (m : Message) (t : T (fits m)) where
   not-crossed : crossed own look ≡ 0
   unfolding rowsOf partIn kindFor lists kinds kindIn
   not-crossed =
-      let r = mark-back (m .«response_exp») (look (bytes "responseExp")) (shown (bytes "responseExp")) in
-      let d = mark-back (m .«dl_open») (look (bytes "dlOpen")) (shown (bytes "dlOpen")) in
+      let r = mark-back (shown (bytes "responseExp")) in
+      let d = mark-back (shown (bytes "dlOpen")) in
       let o = both-right (othersBlank own (rowsOf m)) (not (m .«response_exp») || m .«dl_open») fits-others in
       rw (r, d, uncrossed (m .«response_exp») (m .«dl_open») o)
 

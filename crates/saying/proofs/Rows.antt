@@ -74,59 +74,59 @@ unmarked : (b : Bool) → T (not b) → false ≡ b
 unmarked true t = absurd t
 unmarked false t = refl
 
-module _ (lo hi : ℕ) where
-  pub word-back : (n : ℕ) (c : Cell) → Shown (Kind.wholes lo hi) (word n) c → wordIn c ≡ n
-  word-back n c s = go (always-shown (Kind.wholes lo hi) (Value.number (pos n)) (eqb n 0) c s)
+module _ {lo hi : ℕ} where
+  pub word-back : {n : ℕ} {c : Cell} → Shown (Kind.wholes lo hi) (word n) c → wordIn c ≡ n
+  word-back {n} {c} s = go (always-shown (Kind.wholes lo hi) (Value.number (pos n)) (eqb n 0) c s)
     where
       go : {c : Cell} → Always (Kind.wholes lo hi) (Value.number (pos n)) (eqb n 0) c → wordIn c ≡ n
       go (told w) = refl
       go (none-here t) = sym (eqb→eq n 0 t)
 
-  pub id-back : (z : ℤ) (c : Cell) → Shown (Kind.wholes lo hi) (id z) c → idIn c ≡ z
-  id-back z c s = go (always-shown (Kind.wholes lo hi) (Value.number z) (isZero z) c s)
+  pub id-back : {z : ℤ} {c : Cell} → Shown (Kind.wholes lo hi) (id z) c → idIn c ≡ z
+  id-back {z} {c} s = go (always-shown (Kind.wholes lo hi) (Value.number z) (isZero z) c s)
     where
       go : {c : Cell} → Always (Kind.wholes lo hi) (Value.number z) (isZero z) c → idIn c ≡ z
       go (told w) = refl
       go (none-here t) = zero-is z t
 
-  pub maybe-word-back : (m : MaybeWord) (c : Cell) → Shown (Kind.wholes lo hi) (Says.maybeWord m) c → maybeWord c ≡ m
-  maybe-word-back m c s = go (m .here) refl (maybe-shown (Kind.wholes lo hi) (Value.number (pos (m .value))) (eqb (m .value) 0) (m .here) c s)
+  pub maybe-word-back : (m : MaybeWord) {c : Cell} → Shown (Kind.wholes lo hi) (Says.maybeWord m) c → maybeWord c ≡ m
+  maybe-word-back m {c} s = go (m .here) refl (maybe-shown (Kind.wholes lo hi) (Value.number (pos (m .value))) (eqb (m .value) 0) (m .here) c s)
     where
       go : (h : Bool) → m .here ≡ h → {c : Cell} → Maybe (Kind.wholes lo hi) (Value.number (pos (m .value))) (eqb (m .value) 0) h c → maybeWord c ≡ m
       go true e (there w) = λ i. record { here = sym e i; value = m .value }
       go false e (absent t) = λ i. record { here = sym e i; value = sym (eqb→eq (m .value) 0 t) i }
 
-  pub maybe-id-back : (m : MaybeId) (c : Cell) → Shown (Kind.wholes lo hi) (Says.maybeId m) c → maybeId c ≡ m
-  maybe-id-back m c s = go (m .here) refl (maybe-shown (Kind.wholes lo hi) (Value.number (m .value)) (isZero (m .value)) (m .here) c s)
+  pub maybe-id-back : (m : MaybeId) {c : Cell} → Shown (Kind.wholes lo hi) (Says.maybeId m) c → maybeId c ≡ m
+  maybe-id-back m {c} s = go (m .here) refl (maybe-shown (Kind.wholes lo hi) (Value.number (m .value)) (isZero (m .value)) (m .here) c s)
     where
       go : (h : Bool) → m .here ≡ h → {c : Cell} → Maybe (Kind.wholes lo hi) (Value.number (m .value)) (isZero (m .value)) h c → maybeId c ≡ m
       go true e (there w) = λ i. record { here = sym e i; value = m .value }
       go false e (absent t) = λ i. record { here = sym e i; value = zero-is (m .value) t i }
 
-  pub unless-zero-back : (n : ℕ) (c : Cell) → Shown (Kind.wholes lo hi) (unlessZero n) c → wordIn c ≡ n
-  unless-zero-back n c s = go (maybe-shown (Kind.wholes lo hi) (Value.number (pos n)) (eqb n 0) (not (eqb n 0)) c s)
+  pub unless-zero-back : (n : ℕ) {c : Cell} → Shown (Kind.wholes lo hi) (unlessZero n) c → wordIn c ≡ n
+  unless-zero-back n {c} s = go (maybe-shown (Kind.wholes lo hi) (Value.number (pos n)) (eqb n 0) (not (eqb n 0)) c s)
     where
       go : {h : Bool} {c : Cell} → Maybe (Kind.wholes lo hi) (Value.number (pos n)) (eqb n 0) h c → wordIn c ≡ n
       go (there w) = refl
       go (absent t) = sym (eqb→eq n 0 t)
 
-pub mark-back : (b : Bool) (c : Cell) → Shown Kind.flags (mark b) c → markIn c ≡ b
-mark-back b c s = go (always-shown Kind.flags (Value.mark b) (not b) c s)
+pub mark-back : {b : Bool} {c : Cell} → Shown Kind.flags (mark b) c → markIn c ≡ b
+mark-back {b} {c} s = go (always-shown Kind.flags (Value.mark b) (not b) c s)
   where
     go : {c : Cell} → Always Kind.flags (Value.mark b) (not b) c → markIn c ≡ b
     go (told w) = refl
     go (none-here t) = unmarked b t
 
-pub real-back : (x : Float) (c : Cell) → Shown Kind.reals (real x) c → figureIn c ≡ x
-real-back x c s = go (always-shown Kind.reals (Value.figure x) (noBits x) c s)
+pub real-back : {x : Float} {c : Cell} → Shown Kind.reals (real x) c → figureIn c ≡ x
+real-back {x} {c} s = go (always-shown Kind.reals (Value.figure x) (noBits x) c s)
   where
     go : {c : Cell} → Always Kind.reals (Value.figure x) (noBits x) c → figureIn c ≡ x
     go (told w) = refl
     go (none-here t) = no-bits x t
 
 -- a real that may be absent: its presence and its value
-pub maybe-real-back : (h : Bool) (x : Float) (c : Cell) → Shown Kind.reals (Says.maybeReal h x) c → (here c ≡ h) × (figureIn c ≡ x)
-maybe-real-back h x c s = go (maybe-shown Kind.reals (Value.figure x) (noBits x) h c s)
+pub maybe-real-back : (h : Bool) (x : Float) {c : Cell} → Shown Kind.reals (Says.maybeReal h x) c → (here c ≡ h) × (figureIn c ≡ x)
+maybe-real-back h x {c} s = go (maybe-shown Kind.reals (Value.figure x) (noBits x) h c s)
   where
     go : {h : Bool} {c : Cell} → Maybe Kind.reals (Value.figure x) (noBits x) h c → (here c ≡ h) × (figureIn c ≡ x)
     go (there w) = (refl, refl)
@@ -142,8 +142,8 @@ no-place p t =
       altitude = no-bits (p .altitude) (both-right (noBits (p .longitude)) (noBits (p .altitude)) r) i;
     }
 
-pub maybe-place-back : (m : MaybePosition) (c : Cell) → Shown Kind.places (maybePlace m) c → maybePosition c ≡ m
-maybe-place-back m c s = go (m .here) refl (maybe-shown Kind.places (placeValue (m .value)) (noPlace (m .value)) (m .here) c s)
+pub maybe-place-back : (m : MaybePosition) {c : Cell} → Shown Kind.places (maybePlace m) c → maybePosition c ≡ m
+maybe-place-back m {c} s = go (m .here) refl (maybe-shown Kind.places (placeValue (m .value)) (noPlace (m .value)) (m .here) c s)
   where
     go : (h : Bool) → m .here ≡ h → {c : Cell} → Maybe Kind.places (placeValue (m .value)) (noPlace (m .value)) h c → maybePosition c ≡ m
     go true e (there w) = λ i. record { here = sym e i; value = m .value }
@@ -166,9 +166,9 @@ releaseIs m = Value.release (m .major) (m .minor) (m .patch)
 abbrev noRelease : MaybeVersion → Bool
 noRelease m = eqb (m .major) 0 && (eqb (m .minor) 0 && eqb (m .patch) 0)
 
-pub maybe-version-back : (m : MaybeVersion) (c : Cell) → Shown Kind.versions (Says.maybeVersion m) c → maybeVersion c ≡ m
+pub maybe-version-back : (m : MaybeVersion) {c : Cell} → Shown Kind.versions (Says.maybeVersion m) c → maybeVersion c ≡ m
 unfolding within
-maybe-version-back m c s = go (m .here) refl (maybe-shown Kind.versions (releaseIs m) (noRelease m) (m .here) c s)
+maybe-version-back m {c} s = go (m .here) refl (maybe-shown Kind.versions (releaseIs m) (noRelease m) (m .here) c s)
   where
     go : (h : Bool) → m .here ≡ h → {c : Cell} → Maybe Kind.versions (releaseIs m) (noRelease m) h c → maybeVersion c ≡ m
     go true e (there w) =
@@ -200,8 +200,8 @@ unfolding within
 array-sized lo hi d t =
     leb→le lo (length d) (both-left (leb lo (length d)) (leb (length d) hi) (both-left (isSized lo hi d) (areBytes d) t))
 
-pub fixed-back : (size : ℕ) (d : List ℕ) (c : Cell) → Shown (Kind.arrays size size) (fixed size d) c → stringIn size c ≡ d
-fixed-back size d c s = go (always-shown (Kind.arrays size size) (Value.string d) (zeros size d) c s)
+pub fixed-back : {size : ℕ} {d : List ℕ} {c : Cell} → Shown (Kind.arrays size size) (fixed size d) c → stringIn size c ≡ d
+fixed-back {size} {d} {c} s = go (always-shown (Kind.arrays size size) (Value.string d) (zeros size d) c s)
   where
     go : {c : Cell} → Always (Kind.arrays size size) (Value.string d) (zeros size d) c → stringIn size c ≡ d
     go (told w) =
@@ -240,10 +240,10 @@ module _ (size n : ℕ) (d : List ℕ) where
     good-back : (v : Value) → Value.string (take n d) ≡ v → T (tidy size n d) → Back (Cell.good (keptBy k v))
     good-back v e t = rw (← e, keeps) (joined-back t, taken t)
 
-    pub string-back : (c : Cell) → Shown k (string size n d) c → Back c
-    string-back c (spoken v e t w) = good-back v (some-is e) t
-    string-back c (silent e t) = some-none e
-    string-back c (foreign t) = none-left t
+    pub string-back : {c : Cell} → Shown k (string size n d) c → Back c
+    string-back (spoken v e t w) = good-back v (some-is e) t
+    string-back (silent e t) = some-none e
+    string-back (foreign t) = none-left t
 
     -- where none means absent
     abbrev stringPart : Bool → Part
@@ -260,5 +260,5 @@ module _ (size n : ℕ) (d : List ℕ) where
     string-shown false q c (silent e t) = some-none e
     string-shown false q c (foreign t) = none-left t
 
-    pub maybe-string-back : (c : Cell) → Shown k (maybeString size n d) c → Back c
-    maybe-string-back c s = string-shown (eqb n 0) refl c s
+    pub maybe-string-back : {c : Cell} → Shown k (maybeString size n d) c → Back c
+    maybe-string-back {c} s = string-shown (eqb n 0) refl c s
