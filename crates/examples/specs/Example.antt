@@ -3,16 +3,20 @@ use mathlib.Core.Path.{_≡_}
 use mathlib.Core.List.{List, [], _∷_}
 use Prim.Native.Nat.{ℕ}
 use lib.Ieee.{Float, binary64, toBits}
-use lib.ListN.{length}
+use lib.ListN.{length, replicate}
 use Rattle.octets.specs.Bytes.{bigBytes}
 use Rattle.element.specs.declared.Walked.{Walked}
 use Rattle.element.specs.Form.{walkOf}
 use Rattle.element.specs.At.{leafAt}
 use Rattle.element.specs.Tree.{Pairs, bytesOfPairs}
 use Rattle.element.specs.Meaning.{meaningOfPairs}
+use Rattle.message.specs.declared.Message.{Message}
 use Rattle.message.specs.Reading.{Reading, readingOf}
 use Rattle.number.specs.declared.Number.the-variants.{Real}
 use Rattle.number.specs.Number.{numberOf}
+use Rattle.saying.specs.Written.{payloadFor, frameFor}
+use Rattle.writing.specs.declared.Written.{Written}
+use Rattle.writing.specs.Write.{writtenOf}
 
 pub data Example : Type 0 where
   -- a payload has so many bytes
@@ -23,12 +27,18 @@ pub data Example : Type 0 where
   reading : List ℕ → ℕ → Pairs → Reading → Example
   -- an element is that real, which is kept as those eight bytes
   real : List ℕ → Float → List ℕ → Example
+  -- a record takes so many bytes, and so many with its frame
+  takes : Message → ℕ → ℕ → Example
+  -- writing a record to a room of so many bytes
+  writing : Message → ℕ → Written → Example
 
 abbrev pub Holds : Example → Type 0
 Holds (size s n) = length s ≡ n
 Holds (form s w) = walkOf s ≡ w
 Holds (reading s lead ps r) = (lead ∷ bytesOfPairs ps ≡ s) × (readingOf (meaningOfPairs ps) ≡ r)
 Holds (real s x kept) = (numberOf (leafAt s 0) ≡ Real x) × (bigBytes 8 (toBits binary64 x) ≡ kept)
+Holds (takes m n framed) = (length (payloadFor m) ≡ n) × (length (frameFor m) ≡ framed)
+Holds (writing m n w) = writtenOf m (replicate n 0) ≡ w
 
 abbrev pub AllHold : List Example → Type 0
 AllHold [] = Unit {0}

@@ -1,4 +1,4 @@
--- Document 01, "Examples on each side": those marked *, in its order, as far as they speak of form, of numbers and of reading.
+-- Document 01, "Examples on each side": those marked *, all twelve, in its order.
 use mathlib.Core.Bool.{true}
 use mathlib.Core.List.{List, [], _∷_, _++_}
 use Prim.Native.Nat.{ℕ, zero, suc, _+_}
@@ -17,8 +17,9 @@ use Rattle.message.specs.Record.{messageOf}
 use Rattle.message.specs.Reading.{Reading}
 use Rattle.message.specs.declared.Message.{Message}
 use Rattle.element.specs.declared.Walked.the-variants.{Whole, Refused}
+use Rattle.writing.specs.declared.Written.the-variants as Written
 use Rattle.examples.specs.Example.{Example}
-use Rattle.examples.specs.Example.Example.{size, form, reading, real}
+use Rattle.examples.specs.Example.Example.{size, form, reading, real, takes, writing}
 
 -- the payload P: a map of two pairs, `command` with `ping` and `opId` with 1
 abbrev pub P : List ℕ
@@ -52,9 +53,17 @@ with k v ps = pair (named k) v ps
 abbrev pub P-pairs : Tree → Pairs → Pairs
 P-pairs id more = with "command" (named "ping") (with "opId" id more)
 
+-- the record of a command that has nothing but the ID 1
+abbrev pub only-ID-1 : ℕ → Message
+only-ID-1 c = messageOf c (λ k. either (sameBytes (bytes "opId") k) (λ _. Cell.good (Value.number (pos 1))) (λ _. Cell.missing))
+
 -- the record of ping 1
 abbrev pub ping-1 : Message
-ping-1 = messageOf 9 (λ k. either (sameBytes (bytes "opId") k) (λ _. Cell.good (Value.number (pos 1))) (λ _. Cell.missing))
+ping-1 = only-ID-1 9
+
+-- the record of pingRsp 1
+abbrev pub pingRsp-1 : Message
+pingRsp-1 = only-ID-1 10
 
 abbrev pub starred : List Example
 starred =
@@ -87,4 +96,9 @@ starred =
     form (P-with (extra (nested-in 6))) (Whole 13) ∷
     -- eight: 6, where the innermost starts
     form (P-with (extra (nested-in 7))) (Refused 6 29) ∷
+    -- pingRsp 1 takes 23 bytes, 35 framed
+    takes pingRsp-1 23 35 ∷
+    -- 34 bytes of room: 20
+    writing pingRsp-1 34 (Written.Refused 20) ∷
+    writing pingRsp-1 35 (Written.Whole 35) ∷
     []

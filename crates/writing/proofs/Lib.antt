@@ -3,3 +3,6 @@ pub mod Counts
 pub mod Bodies
 pub mod Titles
 pub mod Framing
+pub mod Settled
+pub mod Refusals
+pub mod Promise
