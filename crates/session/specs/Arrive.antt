@@ -62,12 +62,12 @@ conRspOf h resumed uuid =
     (bytes "snResume") (Value.mark resumed))
     (bytes "snScUuid") (Value.string uuid))
 
+abbrev pub detRspOf : ℤ → List ℕ → Message
+detRspOf z sign = messageOf (commandOf (bytes "detRsp")) (saying (bare z) (bytes "sign") (Value.string sign))
+
 -- the reply to a station's start: detRsp carries the host's sign
 abbrev pub rspOf : Host → ℕ → ℤ → Message
-rspOf h c z =
-    either (eqb c (commandOf (bytes "detRsp")))
-    (λ _. messageOf c (saying (bare z) (bytes "sign") (Value.string (h .sign))))
-    (λ _. bareOf c z)
+rspOf h c z = either (eqb c (commandOf (bytes "detRsp"))) (λ _. detRspOf z (h .sign)) (λ _. bareOf c z)
 
 -- it resumes exactly if a session is stored with the same bsEui and snBsUuid, an snBsOpId if present is at most the highest station ID known,
 -- and an snScOpId if present is at least the lowest centre ID issued

@@ -2,3 +2,5 @@ pub mod Place
 pub mod Kinds
 pub mod Arrive
 pub mod Centre
+pub mod Run
+pub mod Reply

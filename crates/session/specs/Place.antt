@@ -33,6 +33,11 @@ freePlace t = firstFrom isFree 0 t
 abbrev pub placeOf : ℤ → ℕ → List Entry → Option ℕ
 placeOf z k t = firstFrom (matches z k) 0 t
 
+-- a place as the code has it: 16 is none
+abbrev pub placeNumber : Option ℕ → ℕ
+placeNumber none = 16
+placeNumber (some i) = i
+
 abbrev pub entry : ℤ → ℕ → Entry
 entry z k = record { id = z; kind = k }
 

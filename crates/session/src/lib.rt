@@ -1,4 +1,7 @@
 // One session per base station, on records by value. Its rules stand in specs/.
+mod place;
+mod reply;
+
 pub enum State {
     Waiting,
     Connecting,
