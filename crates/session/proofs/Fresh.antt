@@ -1,12 +1,11 @@
 -- After a con that does not resume nothing of the former session is left: the answer is the same whatever it was. Assumes nothing.
-use mathlib.Core.Path.{_≡_, refl, sym, ap, _∙_}
-use mathlib.Core.Bool.{Bool, true, false, _&&_}
-use Rattle.octets.specs.Choice.{either}
+use mathlib.Core.Path.{_≡_}
+use mathlib.Core.Bool.{false}
 use Rattle.message.specs.declared.Message.{Message}
 use Rattle.session.specs.declared.State.the-variants.{Waiting}
 use Rattle.session.specs.declared.Session.{Session}
 use Rattle.session.specs.declared.Host.{Host}
-use Rattle.session.specs.Arrive.{Outcome, resumes, inWaiting, inState, arrives}
+use Rattle.session.specs.Arrive.{resumes, inWaiting, arrives}
 
 pub nothing-left : (s t : Session) (m : Message) (h : Host) → s .state ≡ Waiting → t .state ≡ Waiting → resumes s m ≡ false → resumes t m ≡ false → arrives s m h ≡ arrives t m h
 unfolding arrives inWaiting

@@ -4,4 +4,11 @@ pub mod Moves
 pub mod Rising
 pub mod Entries
 pub mod Searching
+pub mod Typed
+pub mod Knowing
+pub mod Choosing
+pub mod Steps
+pub mod States
+pub mod Connecting
+pub mod Issuing
 pub mod Replies

@@ -1,7 +1,7 @@
 -- Which steps leave a session's number as it is, for any number that only a start of its own side changes; and a run of steps that each leave
 -- it or set it beyond what it was. By cases on each step, then by induction over the run. Assumes nothing.
-use mathlib.Core.Path.{_≡_, refl, sym, ap, subst, _∙_}
-use mathlib.Core.Bool.{Bool, true, false, not, _&&_, _||_}
+use mathlib.Core.Path.{_≡_, refl, subst}
+use mathlib.Core.Bool.{Bool, true, false, not, _&&_}
 use mathlib.Core.List.{List, [], _∷_}
 use mathlib.Core.Option.{Option, some, none}
 use Prim.Native.Nat.{ℕ}
@@ -17,7 +17,8 @@ use Rattle.session.specs.declared.Entry.{Entry}
 use Rattle.session.specs.declared.Session.{Session}
 use Rattle.session.specs.declared.Host.{Host}
 use Rattle.session.specs.Place.{sameId, placeOf, freed}
-use Rattle.session.specs.Kinds.{Operation, stationStarts, centreStarts, operationBy}
+use Rattle.session.specs.Kinds.{Operation}
+use Rattle.session.specs.Happened.{isBegun, isResumed, isOpened}
 use Rattle.session.specs.Arrive.{Outcome, conRspOf, resumes, resumed, begun, opened, withStation, withCentre, completeAt, respondAt, orElse, inWaiting, inConnecting}
 use Rattle.session.specs.Centre.{stored, lostIn, lost}
 use Rattle.session.specs.Run.{Event, reached, after, isFresh, noneFresh, also, idsIn, Ordered}
@@ -42,7 +43,7 @@ module _ (f : Session → ℤ) (S : Steady f) (s : Session) where
 
   module _ (m : Message) (h : Host) where
     waits : (a b c d : Bool) → T d
-        → f (reached s (either a (λ _. either b (λ _. either c (λ _. either d (λ _. Outcome.replies (resumed s) (conRspOf h true (s .«sn_sc_uuid»))) (λ _. Outcome.replies (begun h m) (conRspOf h false (h .uuid)))) (λ _. Outcome.refused 16)) (λ _. Outcome.refused 18)) (λ _. Outcome.refused 17))) ≡ f s
+        → f (reached s (either a (λ _. either b (λ _. either c (λ _. either d (λ _. Outcome.replies isResumed (resumed s) (conRspOf h true (s .«sn_sc_uuid»))) (λ _. Outcome.replies isBegun (begun h m) (conRspOf h false (h .uuid)))) (λ _. Outcome.refused 16)) (λ _. Outcome.refused 18)) (λ _. Outcome.refused 17))) ≡ f s
     waits true true true true t = S .resuming s
     waits true true true false t = absurd t
     waits true true false d t = refl
@@ -55,7 +56,7 @@ module _ (f : Session → ℤ) (S : Steady f) (s : Session) where
     waiting-keeps t =
         waits (eqb (m .command) (commandOf (bytes "con"))) (sameId (m .«op_id») (pos 0)) (eqb (m .version .major) 1 && eqb (m .version .minor) 0) (resumes s m) t
 
-    connects : (b : Bool) → f (reached s (either b (λ _. Outcome.silent (opened s)) (λ _. Outcome.refused 17))) ≡ f s
+    connects : (b : Bool) → f (reached s (either b (λ _. Outcome.silent isOpened (opened s)) (λ _. Outcome.refused 17))) ≡ f s
     connects true = S .opening s
     connects false = refl
 

@@ -1,15 +1,13 @@
 -- The places of one side: the first that passes a test is among them and passes it, none before it does; a table keeps its length; taking a free
 -- place opens one entry more, and freeing one that is open leaves one fewer. By induction over the places. Assumes nothing.
-use mathlib.Core.Path.{_≡_, refl, sym, ap, _∙_}
-use mathlib.Core.Bool.{Bool, true, false, not, _&&_}
+use mathlib.Core.Path.{_≡_, refl, ap}
+use mathlib.Core.Bool.{Bool, true, false}
 use mathlib.Core.List.{List, [], _∷_}
-use mathlib.Core.Option.{Option, some, none}
+use mathlib.Core.Option.{some, none}
 use Prim.Native.Nat.{ℕ, zero, suc, _+_, _-_, _≤_, _<_}
 use native.Mathlib.Omega.{arith}
-use lib.Dec.{T}
 use lib.ListN.{length, set, getD}
 use Rattle.octets.specs.Choice.{either}
-use Rattle.octets.proofs.Ranges.{true-false}
 use Rattle.session.specs.declared.Entry.{Entry}
 use Rattle.session.specs.Place.{isFree, noEntry, firstFrom}
 

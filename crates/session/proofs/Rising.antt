@@ -1,7 +1,7 @@
 -- The IDs of stations' starts rise, and the centre's fall, through any run in which no new session begins, resumes among its steps. A start is
 -- accepted only above the highest ID known, which then is its ID; the centre issues the ID one below its lowest; nothing else changes the two.
 -- Assumes nothing.
-use mathlib.Core.Path.{_≡_, refl, sym, ap, subst, _∙_}
+use mathlib.Core.Path.{_≡_, refl, subst}
 use mathlib.Core.Bool.{Bool, true, false, not, _&&_}
 use mathlib.Core.List.{List}
 use mathlib.Core.Option.{Option, some, none}
@@ -19,8 +19,9 @@ use Rattle.session.specs.declared.Session.{Session}
 use Rattle.session.specs.declared.Host.{Host}
 use Rattle.session.specs.Place.{sameId, freePlace, taken}
 use Rattle.session.specs.Kinds.{Operation, stationStarts, centreStarts, operationBy}
-use Rattle.session.specs.Arrive.{Outcome, below, highestOf, lowestOf, resumes, withCentre, startAt, orElse, inOpen, inState, arrives}
-use Rattle.session.specs.Centre.{oneBelow, lastId, underId, beginAt, begins, whenOpen, centreBegins}
+use Rattle.session.specs.Arrive.{Outcome, below, highestOf, lowestOf, resumes, withCentre, startAt, orElse, inOpen, whenOpen, inState, arrives}
+use Rattle.session.specs.Happened.{isIssued}
+use Rattle.session.specs.Centre.{oneBelow, lastId, underId, beginAt, begins, ifOpen, centreBegins}
 use Rattle.session.specs.Run.{Event, reached, after, ifDone, whileOpen, ifStart, acceptedIn, issuedIn, isWaiting, isFresh, noneFresh, stationIds, centreIds, Rising, Falling}
 use Rattle.session.proofs.Moves.{Steady, Moves, lost-keeps, waiting-keeps, connecting-keeps, ending-keeps, ordered}
 use Rattle.session.proofs.Moves.Moves.{kept, moved}
@@ -52,7 +53,7 @@ module _ (s : Session) (m : Message) (h : Host) where
   start-raises o false e = kept refl
 
   open-raises : (p : Option Operation) → operationBy (λ o. o .start) stationStarts (m .command) ≡ p → Raises s (reached s (inOpen s m h)) (ifStart p (ifDone (inOpen s m h) (m .«op_id»)))
-  unfolding inOpen
+  unfolding whenOpen
   open-raises none e =
       rw e (kept (ending-keeps highestOf highest-steady s m h (operationBy (λ o. o .cmp) stationStarts (m .command)) (operationBy (λ o. o .rsp) centreStarts (m .command))))
   open-raises (some o) e = rw e (start-raises o (below (highestOf s) (m .«op_id»)) refl)
@@ -93,7 +94,7 @@ module _ (s : Session) (m : Message) (h : Host) where
   start-keeps o false = refl
 
   open-keeps : (p : Option Operation) → operationBy (λ o. o .start) stationStarts (m .command) ≡ p → lowestOf (reached s (inOpen s m h)) ≡ lowestOf s
-  unfolding inOpen
+  unfolding whenOpen
   open-keeps none e = rw e (ending-keeps lowestOf lowest-steady s m h (operationBy (λ o. o .cmp) stationStarts (m .command)) (operationBy (λ o. o .rsp) centreStarts (m .command)))
   open-keeps (some o) e = rw e (start-keeps o (below (highestOf s) (m .«op_id»)))
 
@@ -128,8 +129,8 @@ module _ (s : Session) (m : Message) where
 
   -- a record that is written under the ID issued, or refused
   written : (o : Operation) (i : ℕ) (f : Bool)
-      → Lowers s (reached s (either f (λ _. Outcome.replies (withCentre s issued (taken (s .centre) i issued (o .start))) (underId issued m)) (λ _. Outcome.refused 15)))
-      (ifDone (either f (λ _. Outcome.replies (withCentre s issued (taken (s .centre) i issued (o .start))) (underId issued m)) (λ _. Outcome.refused 15)) issued)
+      → Lowers s (reached s (either f (λ _. Outcome.replies isIssued (withCentre s issued (taken (s .centre) i issued (o .start))) (underId issued m)) (λ _. Outcome.refused 15)))
+      (ifDone (either f (λ _. Outcome.replies isIssued (withCentre s issued (taken (s .centre) i issued (o .start))) (underId issued m)) (λ _. Outcome.refused 15)) issued)
   written o i true = moved issued (one-below (lowestOf s)) (rw (still-lowest (lowestOf s)))
   written o i false = kept refl
 
@@ -140,14 +141,14 @@ module _ (s : Session) (m : Message) where
   begun-lowers o (some i) false = written o i (fits (underId issued m))
 
   centre-lowers : (x : State) (p : Option Operation)
-      → Lowers s (reached s (whenOpen x (λ _. orElse p (λ o. begins s o m) (λ _. Outcome.refused 17)))) (ifDone (whenOpen x (λ _. orElse p (λ o. begins s o m) (λ _. Outcome.refused 17))) issued)
+      → Lowers s (reached s (ifOpen x (λ _. orElse p (λ o. begins s o m) (λ _. Outcome.refused 17)))) (ifDone (ifOpen x (λ _. orElse p (λ o. begins s o m) (λ _. Outcome.refused 17))) issued)
   centre-lowers Waiting p = kept refl
   centre-lowers Connecting p = kept refl
   centre-lowers Open none = kept refl
   centre-lowers Open (some o) = begun-lowers o (freePlace (s .centre)) (sameId (lowestOf s) lastId)
 
   -- and the highest stays
-  written-keeps : (o : Operation) (i : ℕ) (f : Bool) → highestOf (reached s (either f (λ _. Outcome.replies (withCentre s issued (taken (s .centre) i issued (o .start))) (underId issued m)) (λ _. Outcome.refused 15))) ≡ highestOf s
+  written-keeps : (o : Operation) (i : ℕ) (f : Bool) → highestOf (reached s (either f (λ _. Outcome.replies isIssued (withCentre s issued (taken (s .centre) i issued (o .start))) (underId issued m)) (λ _. Outcome.refused 15))) ≡ highestOf s
   written-keeps o i true = refl
   written-keeps o i false = refl
 
@@ -156,7 +157,7 @@ module _ (s : Session) (m : Message) where
   begun-keeps o none false = refl
   begun-keeps o (some i) false = written-keeps o i (fits (underId issued m))
 
-  centre-keeps : (x : State) (p : Option Operation) → highestOf (reached s (whenOpen x (λ _. orElse p (λ o. begins s o m) (λ _. Outcome.refused 17)))) ≡ highestOf s
+  centre-keeps : (x : State) (p : Option Operation) → highestOf (reached s (ifOpen x (λ _. orElse p (λ o. begins s o m) (λ _. Outcome.refused 17)))) ≡ highestOf s
   centre-keeps Waiting p = refl
   centre-keeps Connecting p = refl
   centre-keeps Open none = refl

@@ -1,10 +1,10 @@
 -- The code's search of the places: it goes on from each place as the definition does from there; and the machine's equality of signed numbers.
 -- Assumes nothing.
-use mathlib.Core.Path.{_≡_, refl, sym, ap, _∙_}
+use mathlib.Core.Path.{_≡_, refl, sym, _∙_}
 use mathlib.Core.Bool.{Bool, true, false, not, _&&_}
-use mathlib.Core.List.{List, [], _∷_}
-use mathlib.Core.Option.{Option, some, none}
-use Prim.Native.Nat.{ℕ, zero, suc, _+_, _-_, _≤_, _<_, _^_}
+use mathlib.Core.List.{List}
+use mathlib.Core.Option.{some, none}
+use Prim.Native.Nat.{ℕ, suc, _+_, _-_, _≤_, _<_, _^_}
 use native.Mathlib.Numerals.{add-one}
 use native.Mathlib.Omega.{arith}
 use lib.Dec.{eqb}
@@ -15,9 +15,8 @@ use lib.Seq.{drop-cons}
 use mir.Syntax.{w64}
 use mir.Val.{ofZ}
 use borrow.Author.Tests.{eq-eqb, ne-eqb, eqb-true, eqb-false}
-use Rattle.octets.specs.Choice.{either}
 use Rattle.session.specs.declared.Entry.{Entry}
-use Rattle.session.specs.Place.{sameId, isFree, matches, noEntry, firstFrom, placeNumber}
+use Rattle.session.specs.Place.{sameId, isFree, matches, noEntry, firstFrom}
 
 same-test : (a b c d : ℕ) (x : Bool) → eqb c d ≡ x → (a ≡ b → c ≡ d) → (c ≡ d → a ≡ b) → eqb a b ≡ eqb c d
 same-test a b c d true e f g = eq-eqb a b (g (eqb-true c d e)) ∙ sym e

@@ -6,6 +6,7 @@ use mathlib.Core.Option.{Option, some, none}
 use lib.Dec.{eqb, leb, ltb}
 use lib.IntN.{ℤ, pos, negsuc}
 use lib.ListN.{replicate}
+use lib.Signed.{ltZ}
 use Rattle.octets.specs.Choice.{either}
 use Rattle.names.specs.Names.{bytes, sameBytes, commandOf}
 use Rattle.field.specs.Kind.{Value}
@@ -21,19 +22,17 @@ use Rattle.session.specs.declared.Session.{Session}
 use Rattle.session.specs.declared.Host.{Host}
 use Rattle.session.specs.Place.{sameId, freePlace, placeOf, taken, freed, allFree}
 use Rattle.session.specs.Kinds.{Operation, stationStarts, centreStarts, operationBy}
+use Rattle.session.specs.Happened.{isBegun, isResumed, isOpened, isStarted, isCompleted, isAnswered}
 
--- a refusal, or the session after the step and the message that is to be sent
+-- a refusal; or what happened, the session after the step and the message that is to be sent
 pub data Outcome : Type 0 where
   refused : ℕ → Outcome
-  silent : Session → Outcome
-  replies : Session → Message → Outcome
+  silent : ℕ → Session → Outcome
+  replies : ℕ → Session → Message → Outcome
 
 -- a is below b
 abbrev pub below : ℤ → ℤ → Bool
-below (pos a) (pos b) = ltb a b
-below (pos a) (negsuc b) = false
-below (negsuc a) (pos b) = true
-below (negsuc a) (negsuc b) = ltb b a
+below a b = ltZ a b
 
 -- before any, both count as 0, as do a negative highest or a positive lowest handed in
 abbrev pub highestOf : Session → ℤ
@@ -79,13 +78,22 @@ resumes s m =
     && ((not (m .«sn_bs_op_id» .here) || not (below (highestOf s) (m .«sn_bs_op_id» .value)))
     && (not (m .«sn_sc_op_id» .here) || not (below (m .«sn_sc_op_id» .value) (lowestOf s))))))
 
--- the session as it is, connecting
+-- the session as it is, in another state, stored or not
+abbrev pub moved : State → Bool → Session → Session
+moved x b s = record { state = x; stored = b; «bs_eui» = s .«bs_eui»; «sn_bs_uuid» = s .«sn_bs_uuid»; «sn_sc_uuid» = s .«sn_sc_uuid»; highest = s .highest; lowest = s .lowest; station = s .station; centre = s .centre }
+
 abbrev pub resumed : Session → Session
-resumed s = record { state = Connecting; stored = s .stored; «bs_eui» = s .«bs_eui»; «sn_bs_uuid» = s .«sn_bs_uuid»; «sn_sc_uuid» = s .«sn_sc_uuid»; highest = s .highest; lowest = s .lowest; station = s .station; centre = s .centre }
+resumed s = moved Connecting (s .stored) s
 
 -- IDs and open operations cleared; bsEui, snBsUuid and the host's new UUID taken
 abbrev pub begun : Host → Message → Session
 begun h m = record { state = Connecting; stored = false; «bs_eui» = m .«bs_eui»; «sn_bs_uuid» = m .«sn_bs_uuid»; «sn_sc_uuid» = h .uuid; highest = pos 0; lowest = pos 0; station = allFree; centre = allFree }
+
+abbrev pub connects : Session → Message → Host → Outcome
+connects s m h =
+    either (resumes s m)
+    (λ _. Outcome.replies isResumed (resumed s) (conRspOf h true (s .«sn_sc_uuid»)))
+    (λ _. Outcome.replies isBegun (begun h m) (conRspOf h false (h .uuid)))
 
 -- waiting takes only con; tests 17, 18 (opId must be 0), 16
 unfoldable pub inWaiting : Session → Message → Host → Outcome
@@ -93,20 +101,18 @@ inWaiting s m h =
     either (eqb (m .command) (commandOf (bytes "con")))
     (λ _. either (sameId (m .«op_id») (pos 0))
     (λ _. either (eqb (m .version .major) 1 && eqb (m .version .minor) 0)
-    (λ _. either (resumes s m)
-    (λ _. Outcome.replies (resumed s) (conRspOf h true (s .«sn_sc_uuid»)))
-    (λ _. Outcome.replies (begun h m) (conRspOf h false (h .uuid))))
+    (λ _. connects s m h)
     (λ _. Outcome.refused 16))
     (λ _. Outcome.refused 18))
     (λ _. Outcome.refused 17)
 
 -- conCmp with ID 0 opens; all else is 17
 abbrev pub opened : Session → Session
-opened s = record { state = Open; stored = s .stored; «bs_eui» = s .«bs_eui»; «sn_bs_uuid» = s .«sn_bs_uuid»; «sn_sc_uuid» = s .«sn_sc_uuid»; highest = s .highest; lowest = s .lowest; station = s .station; centre = s .centre }
+opened s = moved Open (s .stored) s
 
 unfoldable pub inConnecting : Session → Message → Outcome
 inConnecting s m =
-    either (eqb (m .command) (commandOf (bytes "conCmp")) && sameId (m .«op_id») (pos 0)) (λ _. Outcome.silent (opened s)) (λ _. Outcome.refused 17)
+    either (eqb (m .command) (commandOf (bytes "conCmp")) && sameId (m .«op_id») (pos 0)) (λ _. Outcome.silent isOpened (opened s)) (λ _. Outcome.refused 17)
 
 abbrev pub withStation : Session → ℤ → List Entry → Session
 withStation s z t = record { state = s .state; stored = s .stored; «bs_eui» = s .«bs_eui»; «sn_bs_uuid» = s .«sn_bs_uuid»; «sn_sc_uuid» = s .«sn_sc_uuid»; highest = z; lowest = s .lowest; station = t; centre = s .centre }
@@ -117,7 +123,7 @@ withCentre s z t = record { state = s .state; stored = s .stored; «bs_eui» = s
 -- a station starts with an ID above the highest known and above 0 (18), with a free place (19); the reply is the Rsp
 abbrev pub startAt : Session → Host → Operation → ℤ → Option ℕ → Outcome
 startAt s h o z none = Outcome.refused 19
-startAt s h o z (some i) = Outcome.replies (withStation s z (taken (s .station) i z (o .start))) (rspOf h (o .rsp) z)
+startAt s h o z (some i) = Outcome.replies isStarted (withStation s z (taken (s .station) i z (o .start))) (rspOf h (o .rsp) z)
 
 abbrev pub starts : Session → Host → Operation → ℤ → Outcome
 starts s h o z = either (below (highestOf s) z) (λ _. startAt s h o z (freePlace (s .station))) (λ _. Outcome.refused 18)
@@ -125,24 +131,27 @@ starts s h o z = either (below (highestOf s) z) (λ _. startAt s h o z (freePlac
 -- the entry is freed by a Cmp of the same kind and ID
 abbrev pub completeAt : Session → Option ℕ → Outcome
 completeAt s none = Outcome.refused 17
-completeAt s (some i) = Outcome.silent (withStation s (s .highest) (freed (s .station) i))
+completeAt s (some i) = Outcome.silent isCompleted (withStation s (s .highest) (freed (s .station) i))
 
 -- a matching Rsp is replied to with Cmp and frees the entry
 abbrev pub respondAt : Session → Operation → ℤ → Option ℕ → Outcome
 respondAt s o z none = Outcome.refused 17
-respondAt s o z (some i) = Outcome.replies (withCentre s (s .lowest) (freed (s .centre) i)) (bareOf (o .cmp) z)
+respondAt s o z (some i) = Outcome.replies isAnswered (withCentre s (s .lowest) (freed (s .centre) i)) (bareOf (o .cmp) z)
 
 abbrev pub orElse : {A : Type 0} → Option A → (A → Outcome) → (Unit {0} → Outcome) → Outcome
 orElse none f g = g tt
 orElse (some a) f g = f a
 
 -- a start, a Cmp, a Rsp; all else is 17
-unfoldable pub inOpen : Session → Message → Host → Outcome
-inOpen s m h =
-    orElse (operationBy (λ o. o .start) stationStarts (m .command)) (λ o. starts s h o (m .«op_id»))
-    (λ _. orElse (operationBy (λ o. o .cmp) stationStarts (m .command)) (λ o. completeAt s (placeOf (m .«op_id») (o .start) (s .station)))
-    (λ _. orElse (operationBy (λ o. o .rsp) centreStarts (m .command)) (λ o. respondAt s o (m .«op_id») (placeOf (m .«op_id») (o .start) (s .centre)))
+unfoldable pub whenOpen : Session → Host → ℕ → ℤ → Outcome
+whenOpen s h c z =
+    orElse (operationBy (λ o. o .start) stationStarts c) (λ o. starts s h o z)
+    (λ _. orElse (operationBy (λ o. o .cmp) stationStarts c) (λ o. completeAt s (placeOf z (o .start) (s .station)))
+    (λ _. orElse (operationBy (λ o. o .rsp) centreStarts c) (λ o. respondAt s o z (placeOf z (o .start) (s .centre)))
     (λ _. Outcome.refused 17)))
+
+abbrev pub inOpen : Session → Message → Host → Outcome
+inOpen s m h = whenOpen s h (m .command) (m .«op_id»)
 
 abbrev pub inState : State → Session → Message → Host → Outcome
 inState Waiting s m h = inWaiting s m h

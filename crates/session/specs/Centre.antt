@@ -11,7 +11,8 @@ use Rattle.session.specs.declared.State.the-variants.{Waiting, Connectin
 use Rattle.session.specs.declared.Session.{Session}
 use Rattle.session.specs.Place.{sameId, freePlace, taken}
 use Rattle.session.specs.Kinds.{Operation, centreStarts, operationBy}
-use Rattle.session.specs.Arrive.{Outcome, lowestOf, orElse, withCentre}
+use Rattle.session.specs.Happened.{isIssued}
+use Rattle.session.specs.Arrive.{Outcome, moved, lowestOf, orElse, withCentre}
 
 -- the centre's IDs run downward from -1, each one below the last
 abbrev pub oneBelow : ℤ → ℤ
@@ -71,7 +72,7 @@ underId z m = record {
 -- a bad record is 15, after 19
 abbrev pub beginAt : Session → Operation → ℤ → Message → Option ℕ → Outcome
 beginAt s o z m none = Outcome.refused 19
-beginAt s o z m (some i) = either (fits m) (λ _. Outcome.replies (withCentre s z (taken (s .centre) i z (o .start))) m) (λ _. Outcome.refused 15)
+beginAt s o z m (some i) = either (fits m) (λ _. Outcome.replies isIssued (withCentre s z (taken (s .centre) i z (o .start))) m) (λ _. Outcome.refused 15)
 
 -- at the lower end no more start (18)
 abbrev pub begins : Session → Operation → Message → Outcome
@@ -79,19 +80,21 @@ begins s o m =
     either (sameId (lowestOf s) lastId) (λ _. Outcome.refused 18)
     (λ _. beginAt s o (oneBelow (lowestOf s)) (underId (oneBelow (lowestOf s)) m) (freePlace (s .centre)))
 
-abbrev pub whenOpen : State → (Unit {0} → Outcome) → Outcome
-whenOpen Waiting f = Outcome.refused 17
-whenOpen Connecting f = Outcome.refused 17
-whenOpen Open f = f tt
+abbrev pub ifOpen : State → (Unit {0} → Outcome) → Outcome
+ifOpen Waiting f = Outcome.refused 17
+ifOpen Connecting f = Outcome.refused 17
+ifOpen Open f = f tt
 
 -- the centre starts ping, status, attPrp, detPrp; the message is written under the ID issued
+abbrev pub kindBegins : Session → ℕ → Message → Outcome
+kindBegins s c m = orElse (operationBy (λ o. o .start) centreStarts c) (λ o. begins s o m) (λ _. Outcome.refused 17)
+
 unfoldable pub centreBegins : Session → Message → Outcome
-centreBegins s m =
-    whenOpen (s .state) (λ _. orElse (operationBy (λ o. o .start) centreStarts (m .command)) (λ o. begins s o m) (λ _. Outcome.refused 17))
+centreBegins s m = ifOpen (s .state) (λ _. kindBegins s (m .command) m)
 
 -- lost connection while connecting or open: waiting, session stored; while waiting nothing changes
 abbrev pub stored : Session → Session
-stored s = record { state = Waiting; stored = true; «bs_eui» = s .«bs_eui»; «sn_bs_uuid» = s .«sn_bs_uuid»; «sn_sc_uuid» = s .«sn_sc_uuid»; highest = s .highest; lowest = s .lowest; station = s .station; centre = s .centre }
+stored s = moved Waiting true s
 
 abbrev pub lostIn : State → Session → Session
 lostIn Waiting s = s

@@ -23,8 +23,8 @@ pub data Event : Type 0 where
 -- a refused step changes nothing
 abbrev pub reached : Session → Outcome → Session
 reached s (Outcome.refused n) = s
-reached s (Outcome.silent t) = t
-reached s (Outcome.replies t m) = t
+reached s (Outcome.silent w t) = t
+reached s (Outcome.replies w t m) = t
 
 abbrev pub after : Session → Event → Session
 after s (Event.arrival m h) = reached s (arrives s m h)
@@ -33,8 +33,8 @@ after s Event.loss = lost s
 
 abbrev pub ifDone : Outcome → ℤ → Option ℤ
 ifDone (Outcome.refused n) z = none
-ifDone (Outcome.silent t) z = some z
-ifDone (Outcome.replies t m) z = some z
+ifDone (Outcome.silent w t) z = some z
+ifDone (Outcome.replies w t m) z = some z
 
 abbrev pub whileOpen : State → Option ℤ → Option ℤ
 whileOpen Waiting o = none

@@ -7,9 +7,6 @@ use Rattle.session.proofs.Searching.{found-here, found-later, found-non
 use native.Mathlib.Omega.{arith}
 use Rattle.session.proofs.place.free_place.Statement.{statement}
 use Rattle.session.proofs.place.free_place.Tie as tie
-use Rattle.session.proofs.place.free_place.Reads as reads
-use Rattle.session.proofs.place.free_place.Lts as lts
-use Rattle.session.proofs.place.is_free.Reads as is-free-reads
 
 abbrev Inv-loop : tie.InvT-loop
 Inv-loop t i₀ i = (i ≤ 16) × (freePlace t ≡ firstFrom isFree i (drop i t))

@@ -1,10 +1,7 @@
 use borrow.Author.Needs.{needs}
 use Rattle.session.proofs.Searching.{zero-bits}
-use native.Mathlib.Omega.{arith}
 use Rattle.session.proofs.place.is_free.Statement.{statement}
 use Rattle.session.proofs.place.is_free.Tie as tie
-use Rattle.session.proofs.place.is_free.Reads as reads
-use Rattle.session.proofs.place.is_free.Lts as lts
 
 -- src/place.rt:7:1
 returns : tie.Need-returns

@@ -1,11 +1,7 @@
-use native.Mathlib.Omega.{arith}
 use borrow.Author.Needs.{needs}
 use Rattle.session.proofs.Searching.{match-is}
 use Rattle.session.proofs.place.is_match.Statement.{statement}
 use Rattle.session.proofs.place.is_match.Tie as tie
-use Rattle.session.proofs.place.is_match.Reads as reads
-use Rattle.session.proofs.place.is_match.Lts as lts
-use Rattle.session.proofs.place.is_free.Reads as is-free-reads
 
 -- src/place.rt:16:6
 is-free-requires : tie.Need-is-free-requires

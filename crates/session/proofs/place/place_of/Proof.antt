@@ -10,9 +10,6 @@ use Rattle.session.proofs.Searching.{found-here, found-later, found-non
 use native.Mathlib.Omega.{arith}
 use Rattle.session.proofs.place.place_of.Statement.{statement}
 use Rattle.session.proofs.place.place_of.Tie as tie
-use Rattle.session.proofs.place.place_of.Reads as reads
-use Rattle.session.proofs.place.place_of.Lts as lts
-use Rattle.session.proofs.place.is_match.Reads as is-match-reads
 
 abbrev Inv-loop : tie.InvT-loop
 Inv-loop id kind t i₀ i = (i ≤ 16) × (placeOf (toZ w64 id) kind t ≡ firstFrom (matches (toZ w64 id) kind) i (drop i t))

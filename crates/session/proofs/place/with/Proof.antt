@@ -6,8 +6,6 @@ use lib.ListN.{length}
 use lib.Seq.{set-out}
 use Rattle.session.proofs.place.with.Statement.{statement}
 use Rattle.session.proofs.place.with.Tie as tie
-use Rattle.session.proofs.place.with.Reads as reads
-use Rattle.session.proofs.place.with.Lts as lts
 
 -- src/place.rt:54:9
 returns : tie.Need-returns

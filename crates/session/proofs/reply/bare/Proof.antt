@@ -1,4 +1,3 @@
-use native.Mathlib.Omega.{arith}
 use borrow.Author.Needs.{needs}
 use mir.Syntax.{w64}
 use mir.ValLaws.{toZ-ofZ}
@@ -6,9 +5,6 @@ use Rattle.message.specs.Record.{messageOf}
 use Rattle.session.specs.Reply.{replyOf}
 use Rattle.session.proofs.reply.bare.Statement.{statement}
 use Rattle.session.proofs.reply.bare.Tie as tie
-use Rattle.session.proofs.reply.bare.Reads as reads
-use Rattle.session.proofs.reply.bare.Lts as lts
-use Rattle.session.proofs.reply.reply.Reads as reply-reads
 
 -- src/reply.rt:82:5
 reply-requires : tie.Need-reply-requires

@@ -1,12 +1,8 @@
-use native.Mathlib.Omega.{arith}
 use borrow.Author.Needs.{needs}
 use mathlib.Core.Path.{_∙_}
 use Rattle.session.proofs.Replies.{con-rsp-is}
 use Rattle.session.proofs.reply.con_rsp.Statement.{statement}
 use Rattle.session.proofs.reply.con_rsp.Tie as tie
-use Rattle.session.proofs.reply.con_rsp.Reads as reads
-use Rattle.session.proofs.reply.con_rsp.Lts as lts
-use Rattle.session.proofs.reply.reply.Reads as reply-reads
 
 -- src/reply.rt:96:5
 reply-requires : tie.Need-reply-requires

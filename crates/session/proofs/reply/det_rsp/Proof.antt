@@ -1,4 +1,3 @@
-use native.Mathlib.Omega.{arith}
 use borrow.Author.Needs.{needs}
 use mathlib.Core.Path.{_∙_}
 use mir.Syntax.{w64}
@@ -6,9 +5,6 @@ use mir.ValLaws.{toZ-ofZ}
 use Rattle.session.proofs.Replies.{det-rsp-is}
 use Rattle.session.proofs.reply.det_rsp.Statement.{statement}
 use Rattle.session.proofs.reply.det_rsp.Tie as tie
-use Rattle.session.proofs.reply.det_rsp.Reads as reads
-use Rattle.session.proofs.reply.det_rsp.Lts as lts
-use Rattle.session.proofs.reply.reply.Reads as reply-reads
 
 -- src/reply.rt:118:5
 reply-requires : tie.Need-reply-requires

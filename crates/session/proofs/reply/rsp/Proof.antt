@@ -1,14 +1,9 @@
-use native.Mathlib.Omega.{arith}
 use borrow.Author.Needs.{needs}
 use mir.Syntax.{w64}
 use mir.ValLaws.{toZ-ofZ}
 use Rattle.session.proofs.Replies.{rsp-det, rsp-bare}
 use Rattle.session.proofs.reply.rsp.Statement.{statement}
 use Rattle.session.proofs.reply.rsp.Tie as tie
-use Rattle.session.proofs.reply.rsp.Reads as reads
-use Rattle.session.proofs.reply.rsp.Lts as lts
-use Rattle.session.proofs.reply.bare.Reads as bare-reads
-use Rattle.session.proofs.reply.det_rsp.Reads as det-rsp-reads
 
 -- src/reply.rt:105:9
 det-rsp-requires : tie.Need-det-rsp-requires

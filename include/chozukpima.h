@@ -1,0 +1,247 @@
+/* Chozukpima: the proved core of a mioty service centre. Link with libchozukpima.a (x86-64, little endian).
+ *
+ * Every buffer is lent for one call and none is kept. Every call may be handed any contents: what is bad is refused by its
+ * number, and a refused call changes no lent byte. docs/HOST.md shows the loop that a host writes around these calls. */
+#ifndef CHOZUKPIMA_H
+#define CHOZUKPIMA_H
+
+#include <stddef.h>
+#include <stdint.h>
+
+#ifdef __cplusplus
+#define CHZ_SAME(what, number) static_assert((what) == (number), #what)
+extern "C" {
+#else
+#define CHZ_SAME(what, number) _Static_assert((what) == (number), #what)
+#endif
+
+/* Why a call was refused. */
+enum chz_refusal {
+    CHZ_DONE = 0,
+    CHZ_FRAME_INCOMPLETE = 1,
+    CHZ_FRAME_IDENTIFIER = 2,
+    CHZ_SIZE = 3,
+    CHZ_CUT = 4,
+    CHZ_NEVER_USED = 5,
+    CHZ_TOO_DEEP = 6,
+    CHZ_TOO_MANY_ELEMENTS = 7,
+    CHZ_KEY_NOT_TEXT = 8,
+    CHZ_OUTER_NOT_MAP = 9,
+    CHZ_LEFT_OVER = 10,
+    CHZ_NO_COMMAND = 11,
+    CHZ_UNKNOWN_COMMAND = 12,
+    CHZ_KEY_TWICE = 13,
+    CHZ_FIELD_MISSING = 14,
+    CHZ_INVALID = 15,
+    CHZ_VERSION = 16,
+    CHZ_STATE = 17,
+    CHZ_ID_OUT_OF_ORDER = 18,
+    CHZ_SIXTEEN_OPEN = 19,
+    CHZ_ROOM_TOO_SHORT = 20,
+    CHZ_NO_ROW = 21,
+    CHZ_ALREADY_ENROLLED = 22,
+    CHZ_NO_FREE_ROW = 23,
+    CHZ_UNEQUAL_COLUMNS = 24,
+    CHZ_STATION_NUMBER = 25,
+    CHZ_STALE = 26
+};
+
+/* The commands by number, as chz_message.command has them. */
+enum chz_command {
+    CHZ_CON = 0,
+    CHZ_CON_RSP = 1,
+    CHZ_STATUS_RSP = 2,
+    CHZ_DET = 3,
+    CHZ_DET_RSP = 4,
+    CHZ_ATT_PRP = 5,
+    CHZ_DET_PRP = 6,
+    CHZ_UL_DATA = 7,
+    CHZ_CON_CMP = 8,
+    CHZ_PING = 9,
+    CHZ_PING_RSP = 10,
+    CHZ_PING_CMP = 11,
+    CHZ_STATUS = 12,
+    CHZ_STATUS_CMP = 13,
+    CHZ_DET_CMP = 14,
+    CHZ_ATT_PRP_RSP = 15,
+    CHZ_ATT_PRP_CMP = 16,
+    CHZ_DET_PRP_RSP = 17,
+    CHZ_DET_PRP_CMP = 18,
+    CHZ_UL_DATA_RSP = 19,
+    CHZ_UL_DATA_CMP = 20
+};
+
+/* Every call answers one number: bits 0 to 7 the refusal, 8 to 15 what happened, 16 to 63 a length, a count, a row or a place. */
+static inline unsigned chz_refused(uint64_t answer) { return (unsigned)(answer & 0xFF); }
+static inline unsigned chz_happened(uint64_t answer) { return (unsigned)(answer >> 8 & 0xFF); }
+static inline uint64_t chz_value(uint64_t answer) { return answer >> 16; }
+
+/* What happened, in the answer of a session call. */
+enum chz_step {
+    CHZ_BEGUN = 1,     /* con: a new session; conRsp stands in the room */
+    CHZ_RESUMED = 2,   /* con: the stored session goes on; conRsp stands in the room */
+    CHZ_OPENED = 3,    /* conCmp: operations may start */
+    CHZ_STARTED = 4,   /* ping, det or ulData of the station; its Rsp stands in the room */
+    CHZ_COMPLETED = 5, /* the station completed its own operation; nothing is sent */
+    CHZ_ANSWERED = 6,  /* the station answered an operation of the centre; the Cmp stands in the room */
+    CHZ_ISSUED = 7,    /* chz_begin: the message stands in the room under the ID issued */
+    CHZ_STORED = 8,    /* chz_lost: the session waits for its station */
+    CHZ_NOTHING = 9    /* chz_lost while waiting: nothing changed */
+};
+
+/* What happened, in the answer of chz_uplink. */
+enum chz_credit {
+    CHZ_NEW = 1, /* to be billed: the first of its counter */
+    CHZ_COPY = 2 /* the same packet heard by one more station, or again */
+};
+
+/* A message. What its command has not, and what is absent, is zero, so equal messages are equal bytes. */
+typedef struct chz_message {
+    uint64_t bs_eui;
+    uint64_t sc_eui;
+    uint64_t time;
+    uint64_t uptime;
+    uint64_t ep_eui;
+    uint64_t rx_time;
+    uint64_t rx_duration;
+    int64_t op_id;
+    int64_t sn_bs_op_id;
+    int64_t sn_sc_op_id;
+    double latitude;
+    double longitude;
+    double altitude;
+    double duty_cycle;
+    double temp;
+    double cpu_load;
+    double mem_load;
+    double snr;
+    double rssi;
+    double eq_snr;
+    int32_t code;
+    uint32_t packet_cnt;
+    uint32_t last_packet_cnt;
+    uint16_t version_major;
+    uint16_t version_minor;
+    uint16_t version_patch;
+    uint16_t sh_addr;
+    uint8_t command; /* enum chz_command */
+    uint8_t message_len;
+    uint8_t profile_len; /* 0: absent */
+    uint8_t user_len;
+    uint8_t format;
+    /* marks: 0 or 1 */
+    uint8_t has_version;
+    uint8_t bidi;
+    uint8_t has_geo_location;
+    uint8_t has_sn_bs_op_id;
+    uint8_t has_sn_sc_op_id;
+    uint8_t sn_resume;
+    uint8_t has_uptime;
+    uint8_t has_temp;
+    uint8_t has_cpu_load;
+    uint8_t has_mem_load;
+    uint8_t has_rx_duration;
+    uint8_t has_eq_snr;
+    uint8_t dual_chan;
+    uint8_t repetition;
+    uint8_t wide_carr_off;
+    uint8_t long_blk_dist;
+    uint8_t dl_open;
+    uint8_t response_exp;
+    uint8_t dl_ack;
+    uint8_t sn_bs_uuid[16];
+    uint8_t sn_sc_uuid[16];
+    uint8_t message[64];
+    uint8_t profile[16];
+    uint8_t sign[4];
+    uint8_t nwk_sn_key[16];
+    uint8_t user_data[245];
+    uint8_t reserved[3]; /* zeros */
+} chz_message;
+
+/* A session with one base station. All zeros is a new one. The host stores it and looks, but only the calls change it. */
+typedef struct chz_session {
+    uint64_t bs_eui;
+    int64_t highest; /* highest station ID known */
+    int64_t lowest;  /* lowest centre ID issued */
+    int64_t station_id[16]; /* open operations that the station started; 0 is free */
+    int64_t centre_id[16];  /* open operations that the centre started */
+    uint8_t station_kind[16]; /* enum chz_command of the start */
+    uint8_t centre_kind[16];
+    uint8_t sn_bs_uuid[16];
+    uint8_t sn_sc_uuid[16];
+    uint8_t state; /* enum chz_state */
+    uint8_t stored; /* 0 or 1 */
+    uint8_t reserved[6]; /* zeros */
+} chz_session;
+
+enum chz_state { CHZ_WAITING = 0, CHZ_CONNECTING = 1, CHZ_OPEN = 2 };
+
+CHZ_SAME(sizeof(chz_message), 584);
+CHZ_SAME(offsetof(chz_message, op_id), 56);
+CHZ_SAME(offsetof(chz_message, latitude), 80);
+CHZ_SAME(offsetof(chz_message, code), 160);
+CHZ_SAME(offsetof(chz_message, version_major), 172);
+CHZ_SAME(offsetof(chz_message, command), 180);
+CHZ_SAME(offsetof(chz_message, has_version), 185);
+CHZ_SAME(offsetof(chz_message, sn_bs_uuid), 204);
+CHZ_SAME(offsetof(chz_message, message), 236);
+CHZ_SAME(offsetof(chz_message, user_data), 336);
+CHZ_SAME(offsetof(chz_message, reserved), 581);
+CHZ_SAME(sizeof(chz_session), 352);
+CHZ_SAME(offsetof(chz_session, station_id), 24);
+CHZ_SAME(offsetof(chz_session, centre_id), 152);
+CHZ_SAME(offsetof(chz_session, station_kind), 280);
+CHZ_SAME(offsetof(chz_session, sn_bs_uuid), 312);
+CHZ_SAME(offsetof(chz_session, state), 344);
+
+/* A frame at the start of the bytes: the value is how many bytes it takes; its payload is all of them behind the first 12.
+ * Refusals 1 (wait for more bytes), 2, 3. */
+uint64_t chz_frame(const uint8_t *bytes, size_t bytes_len);
+
+/* A payload into a message: the value is the count of elements. Refusals 3 to 15; for 4 to 10 the value is the byte place.
+ * A message buffer that is not sizeof(chz_message) long is 15 before all others. */
+uint64_t chz_read(const uint8_t *payload, size_t payload_len, uint8_t *message, size_t message_len);
+
+/* A message as a whole frame at the start of the room: the value is its length. Refusals 15, 20.
+ * A room of CHZ_ROOM bytes is enough for every message. */
+uint64_t chz_write(const uint8_t *message, size_t message_len, uint8_t *room, size_t room_len);
+
+/* A message arrives from the station: what happened, and the value is how many bytes of reply stand in the room (0: none).
+ * uuid is 16 fresh bytes, used where a session begins; sign is the 4 bytes for detRsp. Refusals 15, 17, 18, 16 or 19, 20. */
+uint64_t chz_arrive(uint8_t *session, size_t session_len, const uint8_t *message, size_t message_len, uint64_t sc_eui,
+                    const uint8_t *uuid, size_t uuid_len, const uint8_t *sign, size_t sign_len, uint8_t *room, size_t room_len);
+
+/* The centre starts ping, status, attPrp or detPrp: the value is how many bytes stand in the room, under the ID issued
+ * (session.lowest), whatever op_id was handed in. Refusals 17, 18, 19, 15, 20; a buffer of a wrong length is 15 before these. */
+uint64_t chz_begin(uint8_t *session, size_t session_len, const uint8_t *message, size_t message_len, uint8_t *room, size_t room_len);
+
+/* The connection is lost: the session is stored and waits. Refusal 15. */
+uint64_t chz_lost(uint8_t *session, size_t session_len);
+
+#define CHZ_ROOM 1012
+
+/* The meter table: five columns of the host's, equally long (else 24). used: 0 is free; heard: one bit a station. */
+#define CHZ_TABLE_READ                                                                                                    \
+    const uint8_t *used, size_t used_len, const uint64_t *eui, size_t eui_len, const uint16_t *sh_addr, size_t sh_addr_len, \
+        const uint32_t *last, size_t last_len, const uint64_t *heard, size_t heard_len
+#define CHZ_TABLE                                                                                             \
+    uint8_t *used, size_t used_len, uint64_t *eui, size_t eui_len, uint16_t *sh_addr, size_t sh_addr_len,     \
+        uint32_t *last, size_t last_len, uint64_t *heard, size_t heard_len
+
+/* The meter's row. Refusals 24, 21. */
+uint64_t chz_find(CHZ_TABLE_READ, uint64_t meter);
+
+/* Takes the lowest free row for a meter; the value is the row. Refusals 24, 22, 23. */
+uint64_t chz_enrol(CHZ_TABLE, uint64_t meter, uint16_t meter_sh_addr, uint32_t counter);
+
+/* Frees the meter's row; the value is the row. Refusals 24, 21. */
+uint64_t chz_withdraw(CHZ_TABLE, uint64_t meter);
+
+/* Credits a packet: CHZ_NEW or CHZ_COPY, and the value is how many stations heard it so far. Refusals 24, 25, 21, 26. */
+uint64_t chz_uplink(CHZ_TABLE, uint64_t meter, uint32_t counter, uint8_t station);
+
+#ifdef __cplusplus
+}
+#endif
+#endif
