@@ -1,0 +1,4 @@
+pub mod Numbers
+pub mod Sending
+pub mod Filled
+pub mod Settled
