@@ -1,0 +1,24 @@
+use Rattle.chozukpima.proofs.Answers.{answers}
+use native.Mathlib.Omega.{arith}
+use borrow.Author.Needs.{needs}
+use Rattle.chozukpima.proofs.table.chz_find.Statement.{statement}
+use Rattle.chozukpima.proofs.table.chz_find.Tie as tie
+use Rattle.chozukpima.proofs.table.chz_find.Reads as reads
+use Rattle.chozukpima.proofs.table.chz_find.Lts as lts
+use Rattle.chozukpima.proofs.table.place_answer.Reads as place-answer-reads
+use Rattle.meters.proofs.find.Reads as find-reads
+
+-- src/table.rt:42:18
+find-requires : tie.Need-find-requires
+find-requires c κs = search needs
+
+-- src/table.rt:42:5
+place-answer-requires : tie.Need-place-answer-requires
+place-answer-requires c κs = search needs
+
+-- src/table.rt:30:1
+returns : tie.Need-returns
+returns c = search (answers, needs)
+
+pub chz-find-spec : {M : Type 1} → statement M
+chz-find-spec = tie.close (tie.spec find-requires place-answer-requires returns)

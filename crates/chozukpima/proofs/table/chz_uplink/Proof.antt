@@ -1,0 +1,33 @@
+use Rattle.chozukpima.proofs.Answers.{answers}
+use native.Mathlib.Omega.{arith}
+use borrow.Author.Needs.{needs}
+use Rattle.chozukpima.proofs.table.chz_uplink.Statement.{statement}
+use Rattle.chozukpima.proofs.table.chz_uplink.Tie as tie
+use Rattle.chozukpima.proofs.table.chz_uplink.Reads as reads
+use Rattle.chozukpima.proofs.table.chz_uplink.Lts as lts
+use Rattle.chozukpima.proofs.table.credit_answer.Reads as credit-answer-reads
+use Rattle.meters.proofs.uplink.Reads as uplink-reads
+
+-- src/table.rt:96:19
+uplink-requires : tie.Need-uplink-requires
+uplink-requires c κs = search needs
+
+-- src/table.rt:96:5
+credit-answer-requires : tie.Need-credit-answer-requires
+credit-answer-requires c κs = search needs
+
+-- src/table.rt:82:1
+same-length : tie.Need-same-length
+same-length c = search needs
+
+-- src/table.rt:82:1
+same-length-2 : tie.Need-same-length-2
+same-length-2 c = search needs
+
+-- src/table.rt:82:1
+returns : tie.Need-returns
+returns c = search (answers, needs)
+
+pub chz-uplink-spec : {M : Type 1} → statement M
+chz-uplink-spec =
+    tie.close (tie.spec uplink-requires credit-answer-requires same-length same-length-2 returns)

@@ -1,0 +1,29 @@
+use Rattle.chozukpima.proofs.Answers.{answers}
+use native.Mathlib.Omega.{arith}
+use borrow.Author.Needs.{needs}
+use Rattle.chozukpima.proofs.table.chz_withdraw.Statement.{statement}
+use Rattle.chozukpima.proofs.table.chz_withdraw.Tie as tie
+use Rattle.chozukpima.proofs.table.chz_withdraw.Reads as reads
+use Rattle.chozukpima.proofs.table.chz_withdraw.Lts as lts
+use Rattle.chozukpima.proofs.table.place_answer.Reads as place-answer-reads
+use Rattle.meters.proofs.withdraw.Reads as withdraw-reads
+
+-- src/table.rt:78:18
+withdraw-requires : tie.Need-withdraw-requires
+withdraw-requires c κs = search needs
+
+-- src/table.rt:78:5
+place-answer-requires : tie.Need-place-answer-requires
+place-answer-requires c κs = search needs
+
+-- src/table.rt:66:1
+same-length : tie.Need-same-length
+same-length c = search needs
+
+-- src/table.rt:66:1
+returns : tie.Need-returns
+returns c = search (answers, needs)
+
+pub chz-withdraw-spec : {M : Type 1} → statement M
+chz-withdraw-spec =
+    tie.close (tie.spec withdraw-requires place-answer-requires same-length returns)

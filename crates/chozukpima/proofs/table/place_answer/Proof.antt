@@ -1,0 +1,37 @@
+use Rattle.chozukpima.proofs.Answers.{answers}
+use native.Mathlib.Omega.{arith}
+use borrow.Author.Needs.{needs}
+use Rattle.chozukpima.proofs.table.place_answer.Statement.{statement}
+use Rattle.chozukpima.proofs.table.place_answer.Tie as tie
+use Rattle.chozukpima.proofs.table.place_answer.Reads as reads
+use Rattle.chozukpima.proofs.table.place_answer.Lts as lts
+use Rattle.chozukpima.proofs.answer.pack.Reads as pack-reads
+
+-- src/table.rt:14:19
+enum-known-f : tie.Need-enum-known-f
+enum-known-f c = search needs
+
+-- src/table.rt:14:25
+pack-requires : tie.Need-pack-requires
+pack-requires c κs = search needs
+
+-- src/table.rt:15:24
+enum-known-f-2 : tie.Need-enum-known-f-2
+enum-known-f-2 c = search needs
+
+-- src/table.rt:15:30
+pack-requires-2 : tie.Need-pack-requires-2
+pack-requires-2 c κs = search needs
+
+-- src/table.rt:10:1
+returns : tie.Need-returns
+returns c = search (answers, needs)
+
+-- src/table.rt:10:1
+returns-2 : tie.Need-returns-2
+returns-2 c = search (answers, needs)
+
+pub place-answer-spec : {M : Type 1} → statement M
+place-answer-spec =
+    tie.close
+    (tie.spec enum-known-f pack-requires enum-known-f-2 pack-requires-2 returns returns-2)

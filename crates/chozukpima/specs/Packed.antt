@@ -1,0 +1,53 @@
+-- One number answers every call: bits 0 to 7 the refusal (0: done), 8 to 15 what happened, 16 to 63 the value: a length, a count, a row, or the
+-- place for refusals 4 to 10. A value past 48 bits, which no memory has room for, shows as the greatest.
+use Prim.Native.Nat.{ℕ, _+_, _*_}
+use lib.Dec.{leb}
+use Rattle.octets.specs.Choice.{either}
+use Rattle.frame.specs.declared.Framed.{Framed}
+use Rattle.frame.specs.Frame.{refusalOf, usedOf}
+use Rattle.meters.specs.declared.Found.{Found}
+use Rattle.meters.specs.declared.Credit.{Credit}
+use Rattle.meters.specs.declared.Credit.the-variants as credit
+use Rattle.meters.specs.Columns.{Done, Columns}
+
+abbrev pub most : ℕ
+most = 0xFFFFFFFFFFFF
+
+unfoldable pub shown : ℕ → ℕ
+shown value = either (leb value most) (λ _. value) (λ _. most)
+
+unfoldable pub packed : ℕ → ℕ → ℕ → ℕ
+packed refusal happened value = refusal + (256 * happened + 65536 * shown value)
+
+-- a call that is refused without a place
+abbrev pub refusedWith : ℕ → ℕ
+refusedWith n = packed n 0 0
+
+abbrev pub frameAnswer : Framed → ℕ
+frameAnswer f = packed (refusalOf f) 0 (usedOf f)
+
+abbrev pub placeAnswer : Done Found → ℕ
+placeAnswer d = packed (d .refusal) 0 (d .value)
+
+-- 1 new, 2 a copy
+abbrev pub creditKind : Credit → ℕ
+creditKind (credit.New k) = 1
+creditKind (credit.Copy k) = 2
+creditKind (credit.Refused n) = 0
+
+abbrev pub creditAnswer : Done Credit → ℕ
+creditAnswer d = packed (d .refusal) (creditKind (d .answer)) (d .value)
+
+-- an answer, and the columns afterwards
+pub record Told : Type 0 where
+  pub answer : ℕ
+  pub columns : Columns
+
+abbrev pub placed : Done Found → Told
+placed d = record { answer = placeAnswer d; columns = d .columns }
+
+abbrev pub credited : Done Credit → Told
+credited d = record { answer = creditAnswer d; columns = d .columns }
+
+abbrev pub told : ℕ → Columns → Told
+told n c = record { answer = n; columns = c }

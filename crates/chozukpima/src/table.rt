@@ -1,0 +1,99 @@
+// The meter table's calls.
+use crate::answer::pack;
+use meters::Credit;
+use meters::Found;
+ghost use mathlib.Core.Path.{_≡_};
+ghost use Rattle.meters.specs.Answers.{refusalOf, rowOf, creditRefusalOf, hearersOf};
+ghost use Rattle.meters.specs.Columns.{columns, findOn, enrolOn, withdrawOn, uplinkOn};
+ghost use Rattle.chozukpima.specs.Packed.{packed, creditKind, Told, told, placed, credited};
+
+fn place_answer(f: Found) -> u64
+    ensures { λ r. ⌜ r ≡ packed (refusalOf f) 0 (rowOf f) ⌝ }
+{
+    match f {
+        Found::At(i) => pack(0, 0, i),
+        Found::Refused(n) => pack(n, 0, 0),
+    }
+}
+
+fn credit_answer(c: Credit) -> u64
+    ensures { λ r. ⌜ r ≡ packed (creditRefusalOf c) (creditKind c) (hearersOf c) ⌝ }
+{
+    match c {
+        Credit::New(k) => pack(0, 1, k as usize),
+        Credit::Copy(k) => pack(0, 2, k as usize),
+        Credit::Refused(n) => pack(n, 0, 0),
+    }
+}
+
+// The meter's row; 24, 21.
+#[no_mangle]
+pub extern "C" fn chz_find(
+    used: &[u8],
+    euis: &[u64],
+    shorts: &[u16],
+    lasts: &[u32],
+    heards: &[u64],
+    meter: u64,
+) -> u64
+    ensures { λ r. ⌜ _≡_ {A = Told} (told r (columns (now (used .entry)) (now (euis .entry)) (now (shorts .entry)) (now (lasts .entry)) (now (heards .entry))))
+        (placed (findOn (columns (now (used .entry)) (now (euis .entry)) (now (shorts .entry)) (now (lasts .entry)) (now (heards .entry))) meter)) ⌝ }
+{
+    place_answer(meters::find(used, euis, shorts, lasts, heards, meter))
+}
+
+// Takes the lowest free row for a meter; 24, 22, 23.
+#[no_mangle]
+pub extern "C" fn chz_enrol(
+    used: &mut [u8],
+    euis: &mut [u64],
+    shorts: &mut [u16],
+    lasts: &mut [u32],
+    heards: &mut [u64],
+    meter: u64,
+    short: u16,
+    counter: u32,
+) -> u64
+    ensures { λ r. ⌜ _≡_ {A = Told} (told r (columns (now (used .exit)) (now (euis .exit)) (now (shorts .exit)) (now (lasts .exit)) (now (heards .exit))))
+        (placed (enrolOn (columns (now (used .entry)) (now (euis .entry)) (now (shorts .entry)) (now (lasts .entry)) (now (heards .entry))) meter short counter)) ⌝ }
+{
+    place_answer(meters::enrol(
+        used, euis, shorts, lasts, heards, meter, short, counter,
+    ))
+}
+
+// Frees the meter's row; 24, 21.
+#[no_mangle]
+pub extern "C" fn chz_withdraw(
+    used: &mut [u8],
+    euis: &[u64],
+    shorts: &[u16],
+    lasts: &[u32],
+    heards: &[u64],
+    meter: u64,
+) -> u64
+    ensures { λ r. ⌜ _≡_ {A = Told} (told r (columns (now (used .exit)) (now (euis .entry)) (now (shorts .entry)) (now (lasts .entry)) (now (heards .entry))))
+        (placed (withdrawOn (columns (now (used .entry)) (now (euis .entry)) (now (shorts .entry)) (now (lasts .entry)) (now (heards .entry))) meter)) ⌝ }
+{
+    place_answer(meters::withdraw(used, euis, shorts, lasts, heards, meter))
+}
+
+// Credits a packet: new or a copy, and how many stations heard it; 24, 25, 21, 26.
+#[no_mangle]
+pub extern "C" fn chz_uplink(
+    used: &[u8],
+    euis: &[u64],
+    shorts: &[u16],
+    lasts: &mut [u32],
+    heards: &mut [u64],
+    meter: u64,
+    counter: u32,
+    station: u8,
+) -> u64
+    ensures { λ r. ⌜ _≡_ {A = Told} (told r (columns (now (used .entry)) (now (euis .entry)) (now (shorts .entry)) (now (lasts .exit)) (now (heards .exit))))
+        (credited (uplinkOn (columns (now (used .entry)) (now (euis .entry)) (now (shorts .entry)) (now (lasts .entry)) (now (heards .entry))) meter counter station)) ⌝ }
+{
+    credit_answer(meters::uplink(
+        used, euis, shorts, lasts, heards, meter, counter, station,
+    ))
+}
