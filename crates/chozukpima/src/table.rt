@@ -57,9 +57,7 @@ pub extern "C" fn chz_enrol(
     ensures { λ r. ⌜ _≡_ {A = Told} (told r (columns (now (used .exit)) (now (euis .exit)) (now (shorts .exit)) (now (lasts .exit)) (now (heards .exit))))
         (placed (enrolOn (columns (now (used .entry)) (now (euis .entry)) (now (shorts .entry)) (now (lasts .entry)) (now (heards .entry))) meter short counter)) ⌝ }
 {
-    place_answer(meters::enrol(
-        used, euis, shorts, lasts, heards, meter, short, counter,
-    ))
+    place_answer(meters::enrol(used, euis, shorts, lasts, heards, meter, short, counter))
 }
 
 // Frees the meter's row; 24, 21.
@@ -93,7 +91,5 @@ pub extern "C" fn chz_uplink(
     ensures { λ r. ⌜ _≡_ {A = Told} (told r (columns (now (used .entry)) (now (euis .entry)) (now (shorts .entry)) (now (lasts .exit)) (now (heards .exit))))
         (credited (uplinkOn (columns (now (used .entry)) (now (euis .entry)) (now (shorts .entry)) (now (lasts .entry)) (now (heards .entry))) meter counter station)) ⌝ }
 {
-    credit_answer(meters::uplink(
-        used, euis, shorts, lasts, heards, meter, counter, station,
-    ))
+    credit_answer(meters::uplink(used, euis, shorts, lasts, heards, meter, counter, station))
 }

@@ -2,3 +2,4 @@ pub mod Numbers
 pub mod Sending
 pub mod Filled
 pub mod Settled
+pub mod Replying
