@@ -7,20 +7,22 @@ use Prim.Native.Nat.{ℕ, _^_, _<_}
 use native.Mathlib.Omega.{arith}
 use lib.ListN.{length, take}
 use lib.Seq.{take-all}
-use Rattle.octets.specs.Choice.{either}
 use Rattle.octets.proofs.Ranges.{true-false}
 use lib.IntN.{ℤ}
 use lib.Signed.{mag}
 use mir.Syntax.{w32, w64}
 use mir.Val.{toZ, ofZ, SFits}
 use mir.ValLaws.{toZ-ofZ}
+use Rattle.element.specs.Tree.{bytesOf}
+use Rattle.forms.specs.Shortest.{textTree}
 use Rattle.forms.specs.Put.{Put, putParts, wholeParts, octetsParts, mapParts}
-use Rattle.forms.proofs.Putting.{parts-join, parts-then}
+use Rattle.forms.proofs.Putting.{parts-then}
+use Rattle.names.specs.Names.{bytes}
 use Rattle.field.specs.Kind.{Kind, Value}
 use Rattle.message.specs.Fields.{Field, received}
 use Rattle.message.specs.declared.Message.{Message}
 use Rattle.saying.specs.Says.{saysOf}
-use Rattle.writing.specs.Parts.{valueParts, pairIf, pairBy, partsFrom, packetFrom}
+use Rattle.writing.specs.Parts.{valueParts, pairIf, pairBy, partsFrom, packetFrom, titleParts, opIdParts}
 
 module _ (k : Kind) (key : List ℕ) (a : Put) (v : Value) where
   pub pair-none : (here : Bool) → not here ≡ true → a ≡ putParts (pairIf here k key v) a
@@ -59,6 +61,10 @@ module _ (z : ℤ) (m : SFits w32 z) where
       → b ≡ putParts (pairIf here k key (Value.number z)) a
   code-again k key a b here e = rw (toZ-ofZ w64 (toZ w32 (ofZ w32 z)) code-wide, toZ-ofZ w32 z m) at e
 
+pub op-id-put : (a : Put) (z : ℤ) → SFits w64 z → (b c : Put) → b ≡ putParts (bytesOf (textTree (bytes "opId")) ∷ []) a → c ≡ putParts (wholeParts (toZ w64 (ofZ w64 z))) b → c ≡ putParts (opIdParts z) a
+unfolding opIdParts
+op-id-put a z m b c f g = pair-id Kind.words (bytesOf (textTree (bytes "opId"))) a z m b c true refl f g
+
 -- all bytes of d are fewer than 256
 pub pair-fixed : (lo hi : ℕ) (key d : List ℕ) (a b c : Put) → length d < 256 → b ≡ putParts (key ∷ []) a → c ≡ putParts (octetsParts (take 255 d)) b
     → c ≡ putParts (pairIf true (Kind.arrays lo hi) key (Value.string d)) a
@@ -91,6 +97,10 @@ pub behind-packet : (m : Message) (l : List Field) (a b : Put) → b ≡ putPart
 unfolding packetFrom
 behind-packet m l a b e = e ∙ ap (λ (ps : List (List ℕ)). putParts ps a) (sym (parts-append (received []) l (saysOf m)))
 
--- a map's head, where its count is known by another name
-pub map-as : (n k : ℕ) (a b : Put) → n ≡ k → b ≡ putParts (mapParts n) a → b ≡ putParts (mapParts k) a
-map-as n k a b e f = f ∙ ap (λ (j : ℕ). putParts (mapParts j) a) e
+-- a text of at most nine bytes, whole
+pub title-put : (n : ℕ) (name : List ℕ) (a b c : Put) → length name < 10 → b ≡ putParts (mapParts n) a
+    → c ≡ putParts (pairIf true (Kind.texts 0 0) (bytesOf (textTree (bytes "command"))) (Value.string (take 9 name))) b → c ≡ putParts (titleParts n name) a
+unfolding titleParts valueParts pairIf
+title-put n name a b c h e f =
+    let t : take 9 name ≡ name = take-all 9 name (omega arith) in
+    parts-then _ _ a b c e (rw t at f)

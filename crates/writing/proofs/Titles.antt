@@ -1,36 +1,87 @@
--- The rows of the names: a command's row has its length, its bytes and zeros, by one computed test over the 21. Assumes nothing.
-use mathlib.Core.Path.{_≡_, refl, sym, ap, _∙_}
+-- A payload by its command: the title that the code names is the command's, its pairs are counted, and the code's tests settle which command it
+-- is. Assumes nothing.
+use mathlib.Core.Path.{_≡_, refl, sym, ap, ap₂, _∙_}
 use mathlib.Core.Bool.{true}
-use mathlib.Core.List.{List, [], _∷_, _++_}
-use Prim.Native.Nat.{ℕ, _+_, _-_, _*_, _<_}
+use mathlib.Core.List.{List, _++_, append-nil}
+use Prim.Native.Nat.{ℕ, _≤_, _<_}
 use native.Mathlib.Omega.{arith}
-use lib.Dec.{T}
-use lib.ListN.{length, take, drop, getD, replicate}
-use Rattle.octets.proofs.Ranges.{ranged, is-true}
+use lib.IntN.{ℤ}
+use lib.Signed.{mag}
+use mir.Syntax.{w64}
+use mir.Val.{toZ, ofZ, SFits}
+use mir.ValLaws.{toZ-ofZ}
 use Rattle.element.specs.Tree.{bytesOf}
+use Rattle.forms.specs.Shortest.{textTree}
 use Rattle.forms.specs.Put.{Put, putParts}
-use Rattle.forms.specs.Shortest.{textTree, textHead}
-use Rattle.names.specs.Names.{bytes, sameBytes, commands, nameAt}
-use Rattle.names.proofs.Same.{same-eq}
-use Rattle.field.specs.Kind.{Kind, Value}
-use Rattle.writing.specs.Parts.{valueParts, pairIf}
+use Rattle.forms.proofs.Putting.{parts-then}
+use Rattle.names.specs.Names.{bytes, commands, nameAt}
+use Rattle.field.specs.Kind.{Kind, Value, kinds, kindIn}
+use Rattle.message.specs.Fields.{lists, listIn}
+use Rattle.message.specs.declared.Message.{Message}
+use Rattle.saying.specs.Says.{rowsOf, partIn}
+use Rattle.writing.specs.Parts.{pairIf, partsFrom, fieldsFrom, countBy, titleParts, opIdParts, payloadBy, detRspParts, bareParts}
+use Rattle.writing.proofs.Pairs.{fields-then}
+use Rattle.writing.proofs.Counts.{det-rsp-count}
+use Rattle.writing.proofs.Bodies.{fields-none, count-none, six}
 
--- ten places a name
-abbrev pub titles : List (List ℕ) → List ℕ
-titles [] = []
-titles (n ∷ ns) = (length n ∷ n ++ replicate (9 - length n) 0) ++ titles ns
+op-id-handed : (z : ℤ) (a b : Put) → SFits w64 z → b ≡ putParts (opIdParts (toZ w64 (ofZ w64 z))) a → b ≡ putParts (opIdParts z) a
+op-id-handed z a b h e = rw (toZ-ofZ w64 z h) at e
 
-abbrev titleAt : ℕ → List ℕ
-titleAt c = take (getD (titles commands) (c * 10) 0) (take (c * 10 + 10 - (c * 10 + 1)) (drop (c * 10 + 1) (titles commands)))
+-- the title of a command, otherwise written
+title-as : (n k : ℕ) (d e : List ℕ) (a b : Put) → n ≡ k → d ≡ e → b ≡ putParts (titleParts n d) a → b ≡ putParts (titleParts k e) a
+title-as n k d e a b p q f = f ∙ ap₂ (λ (i : ℕ) (x : List ℕ). putParts (titleParts i x) a) p q
 
-pub title-is : (c : ℕ) → c < 21 → titleAt c ≡ nameAt commands c
-unfolding commands nameAt
-title-is c h =
-    same-eq (titleAt c) (nameAt commands c)
-    (sym (is-true (sameBytes (titleAt c) (nameAt commands c)) (ranged (λ k. sameBytes (titleAt k) (nameAt commands k)) 0 21 tt c (omega arith) h)))
+module _ (c : ℕ) (m : Message) (n : ℕ) (name : List ℕ) (o a b d : Put) where
+  pub payload-put : n ≡ countBy c m → name ≡ nameAt commands c → mag (m .«op_id») < 0x8000000000000000 → a ≡ putParts (titleParts n name) o
+      → b ≡ putParts (opIdParts (toZ w64 (ofZ w64 (m .«op_id»)))) a → d ≡ putParts (fieldsFrom c 2 m) b → d ≡ putParts (payloadBy c m) o
+  unfolding payloadBy
+  payload-put k t h e f g = fields-then _ _ _ o a b d (title-as n (countBy c m) name (nameAt commands c) o a k t e) (op-id-handed (m .«op_id») a b (record { sfits = h }) f) g
 
--- the command's pair
-pub title-put : (c : ℕ) → c < 21 → (a b : Put) → b ≡ putParts (pairIf true (Kind.texts 0 0) (bytesOf (textTree (bytes "command"))) (Value.string (titleAt c))) a
-    → b ≡ putParts (pairIf true Kind.words (bytesOf (textTree (bytes "command"))) (Value.string (nameAt commands c))) a
-unfolding valueParts pairIf
-title-put c h a b e = rw (title-is c h) at e
+-- by the fields alone
+module _ (z : ℤ) (f : SFits w64 z) (o a b : Put) where
+  pub bare-put : (c : ℕ) → a ≡ putParts (titleParts 2 (nameAt commands c)) o → b ≡ putParts (opIdParts (toZ w64 (ofZ w64 z))) a → b ≡ putParts (bareParts c z) o
+  unfolding bareParts
+  bare-put c e g = parts-then _ _ o a b e (op-id-handed z a b f g)
+
+  pub det-rsp-put : (sign : List ℕ) (d : Put) → a ≡ putParts (titleParts 3 (bytes "detRsp")) o → b ≡ putParts (opIdParts (toZ w64 (ofZ w64 z))) a
+      → d ≡ putParts (pairIf true (Kind.arrays 4 4) (bytesOf (textTree (bytes "sign"))) (Value.string sign)) b → d ≡ putParts (detRspParts z sign) o
+  unfolding detRspParts
+  det-rsp-put sign d e g h = fields-then _ _ _ o a b d e (op-id-handed z a b f g) h
+
+module _ (m : Message) where
+  det-rsp-is : detRspParts (m .«op_id») (m .sign) ≡ payloadBy 4 m
+  unfolding detRspParts payloadBy fieldsFrom partsFrom pairIf lists listIn rowsOf partIn kinds kindIn commands nameAt
+  det-rsp-is = ap₂ (λ (n : ℕ) (ps : List (List ℕ)). titleParts n (bytes "detRsp") ++ (opIdParts (m .«op_id») ++ ps)) (det-rsp-count m) (sym (append-nil _))
+
+  bare-is : 7 < m .command → bareParts (m .command) (m .«op_id») ≡ payloadBy (m .command) m
+  unfolding bareParts payloadBy
+  bare-is h =
+      ap₂ (λ (n : ℕ) (ps : List (List ℕ)). titleParts n (nameAt commands (m .command)) ++ ps) (count-none m h)
+      (sym (append-nil (opIdParts (m .«op_id»))) ∙ ap (λ (ps : List (List ℕ)). opIdParts (m .«op_id») ++ ps) (sym (fields-none m h)))
+
+  module _ (f : mag (m .«op_id») < 0x8000000000000000) (a b : Put) where
+    pub det-rsp-as : m .command ≡ 4 → b ≡ putParts (detRspParts (toZ w64 (ofZ w64 (m .«op_id»))) (m .sign)) a → b ≡ putParts (payloadBy (m .command) m) a
+    det-rsp-as t e =
+        let x : b ≡ putParts (detRspParts (m .«op_id») (m .sign)) a = rw (toZ-ofZ w64 (m .«op_id») (record { sfits = f })) at e in
+        x ∙ ap (λ (ps : List (List ℕ)). putParts ps a) (det-rsp-is ∙ ap (λ (c : ℕ). payloadBy c m) (sym t))
+
+    pub bare-as : 7 < m .command → b ≡ putParts (bareParts (m .command) (toZ w64 (ofZ w64 (m .«op_id»)))) a → b ≡ putParts (payloadBy (m .command) m) a
+    bare-as h e =
+        let x : b ≡ putParts (bareParts (m .command) (m .«op_id»)) a = rw (toZ-ofZ w64 (m .«op_id») (record { sfits = f })) at e in
+        x ∙ ap (λ (ps : List (List ℕ)). putParts ps a) (bare-is h)
+
+-- by the tests
+module _ (m : Message) (a b : Put) where
+  pub payload-as : (k : ℕ) → m .command ≡ k → b ≡ putParts (payloadBy k m) a → b ≡ putParts (payloadBy (m .command) m) a
+  payload-as k t e = e ∙ ap (λ (c : ℕ). putParts (payloadBy c m) a) (sym t)
+
+  pub payload-last : m .command ≤ 7 → (m .command ≡ 7 → ⊥) → (m .command ≡ 0 → ⊥) → (m .command ≡ 1 → ⊥) → (m .command ≡ 2 → ⊥) → (m .command ≡ 3 → ⊥)
+      → (m .command ≡ 4 → ⊥) → (m .command ≡ 5 → ⊥) → b ≡ putParts (payloadBy 6 m) a → b ≡ putParts (payloadBy (m .command) m) a
+  payload-last l p q r s t u v e = payload-as 6 (six (m .command) l p q r s t u v) e
+
+-- the title by a test, and the last one that is left
+pub name-as : (c k : ℕ) (d : List ℕ) (a b : Put) → c ≡ k → d ≡ nameAt commands k → b ≡ putParts (titleParts 2 d) a → b ≡ putParts (titleParts 2 (nameAt commands c)) a
+name-as c k d a b t q f = title-as 2 2 d (nameAt commands c) a b refl (q ∙ ap (nameAt commands) (sym t)) f
+
+pub last-name : (c : ℕ) → 13 < c → c < 21 → (c ≡ 14 → ⊥) → (c ≡ 15 → ⊥) → (c ≡ 16 → ⊥) → (c ≡ 17 → ⊥) → (c ≡ 18 → ⊥) → (c ≡ 19 → ⊥) → c ≡ 20
+last-name c l h n14 n15 n16 n17 n18 n19 = omega arith

@@ -1,15 +1,18 @@
 -- For the private writers: a record's message part by part. No statement of a public function rests on this page.
-use Prim.Native.Nat.{ℕ}
+use Prim.Native.Nat.{ℕ, _-_}
 use mathlib.Core.Bool.{Bool, true, false}
 use mathlib.Core.List.{List, [], _∷_, _++_}
 use mathlib.Core.Option.{Option, some, none}
+use lib.IntN.{ℤ}
 use lib.ListN.{drop}
 use Rattle.octets.specs.Choice.{either}
+use Rattle.octets.specs.Bytes.{bigBytes, littleBytes, putNumber}
 use Rattle.element.specs.Tree.{bytesOf, pairsOf}
 use Rattle.forms.specs.Shortest.{textTree}
 use Rattle.forms.specs.Put.{Put, putParts, mapParts, wholeParts, realParts, markParts, textParts, octetsParts, positionParts, versionParts}
+use Rattle.names.specs.Names.{bytes, commands, nameAt}
 use Rattle.field.specs.Kind.{Kind, Value, kindOf}
-use Rattle.message.specs.Fields.{Field, headed, received, fieldsOf}
+use Rattle.message.specs.Fields.{Field, received, fieldsOf}
 use Rattle.message.specs.declared.Message.{Message}
 use Rattle.saying.specs.Says.{saysOf}
 use Rattle.saying.specs.Written.{asArray, pairsFrom}
@@ -55,6 +58,24 @@ oneIf false = 0
 unfoldable pub countBy : ℕ → Message → ℕ
 countBy c m = pairsOf (pairsFrom (fieldsOf c) (saysOf m))
 
--- the map's head, command and opId, and the other fields
-unfoldable pub payloadParts : Message → List (List ℕ)
-payloadParts m = (mapParts (countBy (m .command) m) ++ partsFrom (headed []) (saysOf m)) ++ fieldsFrom (m .command) 2 m
+-- the map's head and command
+unfoldable pub titleParts : ℕ → List ℕ → List (List ℕ)
+titleParts n name = mapParts n ++ pairIf true Kind.words (bytesOf (textTree (bytes "command"))) (Value.string name)
+
+unfoldable pub opIdParts : ℤ → List (List ℕ)
+opIdParts z = pairIf true Kind.words (bytesOf (textTree (bytes "opId"))) (Value.number z)
+
+-- a record's message by a command's name and list
+unfoldable pub payloadBy : ℕ → Message → List (List ℕ)
+payloadBy c m = titleParts (countBy c m) (nameAt commands c) ++ (opIdParts (m .«op_id») ++ fieldsFrom c 2 m)
+
+-- the same for detRsp, and for a command that has no other fields
+unfoldable pub detRspParts : ℤ → List ℕ → List (List ℕ)
+detRspParts z sign = titleParts 3 (bytes "detRsp") ++ (opIdParts z ++ pairIf true (Kind.arrays 4 4) (bytesOf (textTree (bytes "sign"))) (Value.string sign))
+
+unfoldable pub bareParts : ℕ → ℤ → List (List ℕ)
+bareParts c z = titleParts 2 (nameAt commands c) ++ opIdParts z
+
+-- the 12 bytes in front of a payload that ends at a place
+unfoldable pub withHead : List ℕ → ℕ → List ℕ
+withHead room end = putNumber (putNumber room 0 8 (bigBytes 8 0x4D494F5459423031)) 8 4 (littleBytes 4 (end - 12))
