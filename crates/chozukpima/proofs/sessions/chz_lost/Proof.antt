@@ -1,0 +1,61 @@
+use native.Mathlib.Omega.{arith}
+use borrow.Author.Needs.{needs}
+use Rattle.chozukpima.proofs.sessions.chz_lost.Statement.{statement}
+use Rattle.chozukpima.proofs.sessions.chz_lost.Tie as tie
+use Rattle.chozukpima.proofs.sessions.chz_lost.Reads as reads
+use Rattle.chozukpima.proofs.sessions.chz_lost.Lts as lts
+use Rattle.chozukpima.proofs.answer.refuse.Reads as refuse-reads
+use Rattle.chozukpima.proofs.sessions.keep.Reads as keep-reads
+use Rattle.images.proofs.is_session.Reads as is-session-reads
+use Rattle.images.proofs.session_in.Reads as session-in-reads
+use Rattle.steps.proofs.lose.Reads as lose-reads
+
+-- src/sessions.rt:68:9
+is-session-requires : tie.Need-is-session-requires
+is-session-requires c κs = search needs
+
+-- src/sessions.rt:69:9
+refuse-requires : tie.Need-refuse-requires
+refuse-requires c κs = search needs
+
+-- src/sessions.rt:69:9
+same-length : tie.Need-same-length
+same-length c = search needs
+
+-- src/sessions.rt:69:9
+returns : tie.Need-returns
+returns c = search needs
+
+-- src/sessions.rt:71:31
+session-in-requires : tie.Need-session-in-requires
+session-in-requires c κs = search needs
+
+-- src/sessions.rt:71:19
+lose-requires : tie.Need-lose-requires
+lose-requires c κs = search needs
+
+-- src/sessions.rt:71:5
+keep-requires : tie.Need-keep-requires
+keep-requires c κs = search needs
+
+-- src/sessions.rt:64:1
+same-length-2 : tie.Need-same-length-2
+same-length-2 c = search needs
+
+-- src/sessions.rt:64:1
+returns-2 : tie.Need-returns-2
+returns-2 c = search needs
+
+pub chz-lost-spec : {M : Type 1} → statement M
+chz-lost-spec =
+    tie.close
+    (tie.spec
+    is-session-requires
+    refuse-requires
+    same-length
+    returns
+    session-in-requires
+    lose-requires
+    keep-requires
+    same-length-2
+    returns-2)

@@ -1,0 +1,16 @@
+pub mod Taking
+pub mod Standing
+pub mod Signs
+pub mod Figures
+pub mod Numbers
+pub mod Chains
+pub mod Rooms
+pub mod Marks
+pub mod Bounds
+pub mod Typed
+pub mod Records
+pub mod Entries
+pub mod TypedSession
+pub mod Marred
+pub mod Sessions
+pub mod Settled
