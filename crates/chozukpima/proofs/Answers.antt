@@ -1,16 +1,9 @@
 -- What the calls answer, packed into one number. Assumes nothing.
 use mathlib.Core.Path.{_≡_, sym, ap, _∙_}
-use mathlib.Core.List.{List}
 use Prim.Native.Nat.{ℕ, _+_, _*_, _≤_, _<_}
-use native.Mathlib.Omega.{arith}
-use lib.Dec.{leb}
-use mir.Syntax.{w64}
-use mir.Val.{Fits}
 use borrow.Author.Tests.{le-leb, lt-leb}
-use Rattle.octets.specs.Choice.{either}
 use Rattle.frame.specs.declared.Framed.{Framed}
 use Rattle.frame.specs.declared.Framed.the-variants.{Whole, Refused}
-use Rattle.frame.specs.Frame.{framedOf}
 use Rattle.meters.specs.declared.Found.{Found}
 use Rattle.meters.specs.declared.Found.the-variants as found
 use Rattle.meters.specs.declared.Credit.{Credit}

@@ -12,9 +12,10 @@ fn keep(session: &mut [u8], a: Answer) -> u64
     requires { ⌜ length (now session) ≡ sessionSize ⌝ }
     ensures { λ r. ⌜ (r ≡ stepAnswer a) × (now (session .exit) ≡ sessionAfter a (now (session .entry))) ⌝ }
 {
-    if a.refusal == 0 {
-        images::put_session(session, a.session);
+    if a.refusal != 0 {
+        return pack(a.refusal, a.happened, a.length);
     }
+    images::put_session(session, a.session);
     pack(a.refusal, a.happened, a.length)
 }
 

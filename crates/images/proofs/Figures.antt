@@ -7,7 +7,7 @@ use lib.Dec.{T}
 use lib.Ieee.{Float, nan, inf, fin, isNan, nanBits, binary64, ofBits, div, fits}
 use lib.Ieee.Bits.{nanBits-is, nanBits-above, toBits-lt, ofBits-toBits}
 use borrow.Author.Tests.{lt-ltb, le-ltb}
-use Rattle.octets.proofs.Ranges.{true-false}
+use Rattle.octets.proofs.Ranges.{true-false, true-is}
 use Rattle.images.specs.Lists.{realBits, realOf}
 use Rattle.images.proofs.Standing.{Small}
 
@@ -31,12 +31,12 @@ no-nan n h = rw (nanBits-above binary64 n ∙ le-ltb 0x7FF0000000000000 (n % 0x8
 -- a list of reals of 64 bits
 abbrev pub Held : List Float → Type 0
 Held [] = Unit {0}
-Held (x ∷ xs) = T (fits binary64 x) × Held xs
+Held (x ∷ xs) = (fits binary64 x ≡ true) × Held xs
 
 pub reals-below : (xs : List Float) → Held xs → Small 8 (map realBits xs)
 reals-below [] f = tt
-reals-below (x ∷ xs) f = (toBits-lt binary64 x (f .0), reals-below xs (f .1))
+reals-below (x ∷ xs) f = (toBits-lt binary64 x (true-is (fits binary64 x) (sym (f .0))), reals-below xs (f .1))
 
 pub reals-back : (xs : List Float) → Held xs → map realOf (map realBits xs) ≡ xs
 reals-back [] f = refl
-reals-back (x ∷ xs) f = ap₂ (λ (y : Float) (l : List Float). y ∷ l) (ofBits-toBits binary64 x (f .0)) (reals-back xs (f .1))
+reals-back (x ∷ xs) f = ap₂ (λ (y : Float) (l : List Float). y ∷ l) (ofBits-toBits binary64 x (true-is (fits binary64 x) (sym (f .0)))) (reals-back xs (f .1))

@@ -5,7 +5,7 @@ use mathlib.Core.List.{List, [], _∷_, _++_}
 use Prim.Native.Nat.{ℕ, suc, _+_, _*_, _^_, _≤_, _<_}
 use native.Mathlib.Nat.{add-zero, mul-zero, mul-suc}
 use native.Mathlib.Omega.{arith}
-use lib.ListN.{length, drop, length-append, length-drop}
+use lib.ListN.{length, drop, length-drop}
 use Rattle.octets.specs.Number.{littleAt}
 use Rattle.octets.specs.Bytes.{littleBytes}
 use Rattle.octets.proofs.Digits.{length-little, little-here}
@@ -74,15 +74,3 @@ module _ (n : ℕ) (few : n ≤ 8) (d : List ℕ) (ps : List (List ℕ)) where
       let t = behind d at (littleBytes n x) (numberParts n xs ++ ps) s n (length-little n x) in
       let e : at + n + n * length xs ≡ at + n * suc (length xs) = omega (arith, mul-suc n (length xs)) in
       rw e at (numbers-behind (at + n) xs t)
-
--- sizes
-pub length-numbers : (n : ℕ) (xs : List ℕ) (ps : List (List ℕ)) → length (joined (numberParts n xs ++ ps)) ≡ n * length xs + length (joined ps)
-unfolding joined numberParts
-length-numbers n [] ps = omega (arith, mul-zero n)
-length-numbers n (x ∷ xs) ps =
-    let l : length (littleBytes n x) ≡ n = length-little n x in
-    length-append (littleBytes n x) (joined (numberParts n xs ++ ps)) ∙ omega (arith, length-numbers n xs ps, mul-suc n (length xs))
-
-pub length-run : (v : List ℕ) (ps : List (List ℕ)) → length (joined (v ∷ ps)) ≡ length v + length (joined ps)
-unfolding joined
-length-run v ps = length-append v (joined ps)

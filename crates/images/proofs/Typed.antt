@@ -1,9 +1,8 @@
 -- What the type of a record says of its parts: each number has room in the bytes of its list, each signed number and each real has its width, and
 -- each array has its length. `Typed m vs` is what a function that takes a record is handed of it. Assumes nothing.
-use mathlib.Core.Path.{_≡_, sym}
+use mathlib.Core.Path.{_≡_}
 use mathlib.Core.List.{List, map}
 use Prim.Native.Nat.{ℕ}
-use lib.Ieee.{binary64, fits as holds}
 use lib.ListN.{length}
 use mir.Syntax.{w8, w32, w64}
 use mir.Val.{Val, SFits}
@@ -13,7 +12,6 @@ use denote.Plain.{UInt}
 use denote.Shadow.{shadow}
 use denote.Struct.Declared.{row}
 use borrow.Author.Needs.{length-unmapped}
-use Rattle.octets.proofs.Ranges.{true-is}
 use Rattle.message.specs.declared.Message.{Message}
 use Rattle.message.proofs.Message.{the-type}
 use Rattle.images.specs.Record.{wordsOf, idsOf, realsOf, countsOf, shortsOf, smallsOf}
@@ -24,7 +22,7 @@ use Rattle.images.proofs.Standing.{Small}
 abbrev pub Typed : Message → List Val → Type 0
 Typed m vs = Is (row the-type) m vs
 
-array-long : (n : ℕ) (d : List ℕ) (vs : List Val) → shadow (inArray ℕ (UInt w8 .own) n (map (λ (v : ℕ). v) d) vs) → length d ≡ n
+pub array-long : (n : ℕ) (d : List ℕ) (vs : List Val) → shadow (inArray ℕ (UInt w8 .own) n (map (λ (v : ℕ). v) d) vs) → length d ≡ n
 array-long n d vs p = length-unmapped ℕ d n (p .1 .0 .1)
 
 module _ (m : Message) (vs : List Val) (g : Typed m vs) where
@@ -42,24 +40,24 @@ module _ (m : Message) (vs : List Val) (g : Typed m vs) where
 
   pub reals-held : Held (realsOf m)
   reals-held = (
-    true-is (holds binary64 (m .«geo_location» .value .latitude)) (sym (g .1 .1 .1 .1 .1 .1 .1 .0 .1 .1 .1 .0 .1 .1 .0 .1)),
+    g .1 .1 .1 .1 .1 .1 .1 .0 .1 .1 .1 .0 .1 .1 .0 .1,
     (
-      true-is (holds binary64 (m .«geo_location» .value .longitude)) (sym (g .1 .1 .1 .1 .1 .1 .1 .0 .1 .1 .1 .0 .1 .1 .1 .0 .1)),
+      g .1 .1 .1 .1 .1 .1 .1 .0 .1 .1 .1 .0 .1 .1 .1 .0 .1,
       (
-        true-is (holds binary64 (m .«geo_location» .value .altitude)) (sym (g .1 .1 .1 .1 .1 .1 .1 .0 .1 .1 .1 .0 .1 .1 .1 .1 .0 .1)),
+        g .1 .1 .1 .1 .1 .1 .1 .0 .1 .1 .1 .0 .1 .1 .1 .1 .0 .1,
         (
-          true-is (holds binary64 (m .«duty_cycle»)) (sym (g .1 .1 .1 .1 .1 .1 .1 .1 .1 .1 .1 .1 .1 .1 .1 .1 .1 .1 .0 .1)),
+          g .1 .1 .1 .1 .1 .1 .1 .1 .1 .1 .1 .1 .1 .1 .1 .1 .1 .1 .0 .1,
           (
-            true-is (holds binary64 (m .temp .value)) (sym (g .1 .1 .1 .1 .1 .1 .1 .1 .1 .1 .1 .1 .1 .1 .1 .1 .1 .1 .1 .1 .0 .1 .1 .1 .0 .1)),
+            g .1 .1 .1 .1 .1 .1 .1 .1 .1 .1 .1 .1 .1 .1 .1 .1 .1 .1 .1 .1 .0 .1 .1 .1 .0 .1,
             (
-              true-is (holds binary64 (m .«cpu_load» .value)) (sym (g .1 .1 .1 .1 .1 .1 .1 .1 .1 .1 .1 .1 .1 .1 .1 .1 .1 .1 .1 .1 .1 .0 .1 .1 .1 .0 .1)),
+              g .1 .1 .1 .1 .1 .1 .1 .1 .1 .1 .1 .1 .1 .1 .1 .1 .1 .1 .1 .1 .1 .0 .1 .1 .1 .0 .1,
               (
-                true-is (holds binary64 (m .«mem_load» .value)) (sym (g .1 .1 .1 .1 .1 .1 .1 .1 .1 .1 .1 .1 .1 .1 .1 .1 .1 .1 .1 .1 .1 .1 .0 .1 .1 .1 .0 .1)),
+                g .1 .1 .1 .1 .1 .1 .1 .1 .1 .1 .1 .1 .1 .1 .1 .1 .1 .1 .1 .1 .1 .1 .0 .1 .1 .1 .0 .1,
                 (
-                  true-is (holds binary64 (m .signal .snr)) (sym (g .1 .1 .1 .1 .1 .1 .1 .1 .1 .1 .1 .1 .1 .1 .1 .1 .1 .1 .1 .1 .1 .1 .1 .1 .1 .1 .1 .0 .1 .1 .0 .1)),
+                  g .1 .1 .1 .1 .1 .1 .1 .1 .1 .1 .1 .1 .1 .1 .1 .1 .1 .1 .1 .1 .1 .1 .1 .1 .1 .1 .1 .0 .1 .1 .0 .1,
                   (
-                    true-is (holds binary64 (m .signal .rssi)) (sym (g .1 .1 .1 .1 .1 .1 .1 .1 .1 .1 .1 .1 .1 .1 .1 .1 .1 .1 .1 .1 .1 .1 .1 .1 .1 .1 .1 .0 .1 .1 .1 .0 .1)),
-                    (true-is (holds binary64 (m .signal .«eq_snr»)) (sym (g .1 .1 .1 .1 .1 .1 .1 .1 .1 .1 .1 .1 .1 .1 .1 .1 .1 .1 .1 .1 .1 .1 .1 .1 .1 .1 .1 .0 .1 .1 .1 .1 .0 .1)), tt),
+                    g .1 .1 .1 .1 .1 .1 .1 .1 .1 .1 .1 .1 .1 .1 .1 .1 .1 .1 .1 .1 .1 .1 .1 .1 .1 .1 .1 .0 .1 .1 .1 .0 .1,
+                    (g .1 .1 .1 .1 .1 .1 .1 .1 .1 .1 .1 .1 .1 .1 .1 .1 .1 .1 .1 .1 .1 .1 .1 .1 .1 .1 .1 .0 .1 .1 .1 .1 .0 .1, tt),
                   ),
                 ),
               ),

@@ -4,26 +4,22 @@ use mathlib.Core.Path.{_≡_}
 use mathlib.Core.List.{List, [], _∷_, map}
 use Prim.Native.Nat.{ℕ, _^_, _<_}
 use lib.ListN.{length, length-map}
-use mir.Syntax.{w8, w64}
+use mir.Syntax.{w64}
 use mir.Val.{Val, SFits}
 use denote.Array.{each, inArray}
 use denote.Laws.{Is}
-use denote.Plain.{UInt}
 use denote.Shadow.{shadow}
 use denote.Struct.Declared.{row}
 use denote.Struct.Field.{Field}
-use borrow.Author.Needs.{length-unmapped}
 use Rattle.session.specs.declared.Entry.{Entry}
 use Rattle.session.proofs.Entry as the-entry
 use Rattle.session.specs.declared.Session.{Session}
 use Rattle.session.proofs.Session.{the-type}
 use Rattle.images.proofs.Signs.{AllFit}
+use Rattle.images.proofs.Typed.{array-long}
 
 abbrev pub TypedSession : Session → List Val → Type 0
 TypedSession s vs = Is (row the-type) s vs
-
-array-long : (n : ℕ) (d : List ℕ) (vs : List Val) → shadow (inArray ℕ (UInt w8 .own) n (map (λ (v : ℕ). v) d) vs) → length d ≡ n
-array-long n d vs p = length-unmapped ℕ d n (p .1 .0 .1)
 
 -- so many entries, each with an ID of 64 bits
 pub record Sided (n : ℕ) (t : List Entry) : Type 0 where

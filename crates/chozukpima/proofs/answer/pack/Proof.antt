@@ -1,12 +1,7 @@
 use Rattle.chozukpima.proofs.Answers.{answers}
-use native.Mathlib.Omega.{arith}
 use borrow.Author.Needs.{needs}
 use Rattle.chozukpima.proofs.answer.pack.Statement.{statement}
 use Rattle.chozukpima.proofs.answer.pack.Tie as tie
-use Rattle.chozukpima.proofs.answer.pack.Reads as reads
-use Rattle.chozukpima.proofs.answer.pack.Lts as lts
-use Rattle.chozukpima.proofs.answer.shown.Reads as shown-reads
-use Rattle.chozukpima.proofs.answer.wide.Reads as wide-reads
 
 -- src/answer.rt:26:9
 shown-requires : tie.Need-shown-requires

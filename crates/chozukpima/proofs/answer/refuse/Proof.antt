@@ -1,10 +1,6 @@
 use borrow.Author.Needs.{needs}
-use native.Mathlib.Omega.{arith}
 use Rattle.chozukpima.proofs.answer.refuse.Statement.{statement}
 use Rattle.chozukpima.proofs.answer.refuse.Tie as tie
-use Rattle.chozukpima.proofs.answer.refuse.Reads as reads
-use Rattle.chozukpima.proofs.answer.refuse.Lts as lts
-use Rattle.chozukpima.proofs.answer.pack.Reads as pack-reads
 
 -- src/answer.rt:33:5
 pack-requires : tie.Need-pack-requires

@@ -1,10 +1,7 @@
 use Rattle.chozukpima.proofs.Answers.{answers}
 use borrow.Author.Needs.{needs}
-use native.Mathlib.Omega.{arith}
 use Rattle.chozukpima.proofs.answer.shown.Statement.{statement}
 use Rattle.chozukpima.proofs.answer.shown.Tie as tie
-use Rattle.chozukpima.proofs.answer.shown.Reads as reads
-use Rattle.chozukpima.proofs.answer.shown.Lts as lts
 
 -- src/answer.rt:11:9
 returns : tie.Need-returns

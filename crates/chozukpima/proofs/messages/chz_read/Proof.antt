@@ -1,12 +1,8 @@
-use native.Mathlib.Omega.{arith}
+use denote.Ref.{now}
+use Rattle.chozukpima.proofs.Calls.{read-short, read-whole}
 use borrow.Author.Needs.{needs}
 use Rattle.chozukpima.proofs.messages.chz_read.Statement.{statement}
 use Rattle.chozukpima.proofs.messages.chz_read.Tie as tie
-use Rattle.chozukpima.proofs.messages.chz_read.Reads as reads
-use Rattle.chozukpima.proofs.messages.chz_read.Lts as lts
-use Rattle.chozukpima.proofs.answer.refuse.Reads as refuse-reads
-use Rattle.chozukpima.proofs.messages.tell.Reads as tell-reads
-use Rattle.reading.proofs.read.Reads as read-reads
 
 -- src/messages.rt:19:9
 refuse-requires : tie.Need-refuse-requires
@@ -14,7 +10,7 @@ refuse-requires c κs = search needs
 
 -- src/messages.rt:19:9
 returns : tie.Need-returns
-returns c = search needs
+returns c = read-short (now (c .before .before .before .before .args .payload)) (now (c .before .before .before .before .args .message)) _ (c .before .if1 .taken) (c .refuse .ensures)
 
 -- src/messages.rt:21:10
 read-requires : tie.Need-read-requires
@@ -30,7 +26,7 @@ same-length c = search needs
 
 -- src/messages.rt:14:1
 returns-2 : tie.Need-returns-2
-returns-2 c = search needs
+returns-2 c = read-whole (now (c .before .before .before .before .before .before .before .before .args .payload)) (now (c .before .before .before .before .before .before .before .before .args .message)) _ _ _ (c .before .before .before .before .before .if1 .left) (c .before .before .before .before .read .ensures) (c .before .before .tell .ensures)
 
 pub chz-read-spec : {M : Type 1} → statement M
 chz-read-spec =

@@ -1,13 +1,8 @@
-use native.Mathlib.Omega.{arith}
+use denote.Ref.{now}
+use Rattle.chozukpima.proofs.Calls.{write-short, write-whole}
 use borrow.Author.Needs.{needs}
 use Rattle.chozukpima.proofs.messages.chz_write.Statement.{statement}
 use Rattle.chozukpima.proofs.messages.chz_write.Tie as tie
-use Rattle.chozukpima.proofs.messages.chz_write.Reads as reads
-use Rattle.chozukpima.proofs.messages.chz_write.Lts as lts
-use Rattle.chozukpima.proofs.answer.refuse.Reads as refuse-reads
-use Rattle.chozukpima.proofs.messages.written.Reads as written-reads
-use Rattle.images.proofs.record_in.Reads as record-in-reads
-use Rattle.writing.proofs.write.Reads as write-reads
 
 -- src/messages.rt:41:9
 refuse-requires : tie.Need-refuse-requires
@@ -15,7 +10,7 @@ refuse-requires c κs = search needs
 
 -- src/messages.rt:41:9
 returns : tie.Need-returns
-returns c = search needs
+returns c = write-short (now (c .before .before .before .before .args .message)) (now (c .before .before .before .before .args .room)) _ (c .before .if1 .taken) (c .refuse .ensures)
 
 -- src/messages.rt:43:28
 record-in-requires : tie.Need-record-in-requires
@@ -35,7 +30,7 @@ same-length c = search needs
 
 -- src/messages.rt:36:1
 returns-2 : tie.Need-returns-2
-returns-2 c = search needs
+returns-2 c = write-whole (now (c .before .before .before .before .before .before .before .before .before .args .message)) (now (c .before .before .before .before .before .before .before .before .before .args .room)) _ _ _ _ (c .before .before .before .before .before .before .if1 .left) (c .before .before .before .before .before .record-in .ensures) (c .before .before .before .write .ensures) (c .written .ensures)
 
 pub chz-write-spec : {M : Type 1} → statement M
 chz-write-spec =

@@ -1,11 +1,8 @@
-use native.Mathlib.Omega.{arith}
+use denote.Ref.{now}
+use Rattle.chozukpima.proofs.Calls.{told-refused, told-whole}
 use borrow.Author.Needs.{needs}
 use Rattle.chozukpima.proofs.messages.tell.Statement.{statement}
 use Rattle.chozukpima.proofs.messages.tell.Tie as tie
-use Rattle.chozukpima.proofs.messages.tell.Reads as reads
-use Rattle.chozukpima.proofs.messages.tell.Lts as lts
-use Rattle.chozukpima.proofs.answer.pack.Reads as pack-reads
-use Rattle.images.proofs.put_record.Reads as put-record-reads
 
 -- src/messages.rt:29:9
 pack-requires : tie.Need-pack-requires
@@ -13,7 +10,7 @@ pack-requires c κs = search needs
 
 -- src/messages.rt:29:9
 returns : tie.Need-returns
-returns c = search needs
+returns c = told-refused (c .before .before .before .before .args .t) (now (c .before .before .before .before .args .message)) _ (c .before .if1 .taken) (c .pack .ensures)
 
 -- src/messages.rt:31:5
 put-record-requires : tie.Need-put-record-requires
@@ -29,7 +26,7 @@ same-length c = search needs
 
 -- src/messages.rt:24:1
 returns-2 : tie.Need-returns-2
-returns-2 c = search needs
+returns-2 c = told-whole (c .before .before .before .before .before .before .before .before .args .t) (now (c .before .before .before .before .before .before .before .before .args .message)) _ _ (c .before .before .before .before .before .if1 .left) (c .before .before .before .before .before .before .before .before .pre) (c .pack2 .ensures) (c .before .before .before .put-record .ensures)
 
 pub tell-spec : {M : Type 1} → statement M
 tell-spec =

@@ -1,11 +1,7 @@
-use native.Mathlib.Omega.{arith}
+use Rattle.chozukpima.proofs.Calls.{written-whole, written-refused}
 use borrow.Author.Needs.{needs}
 use Rattle.chozukpima.proofs.messages.written.Statement.{statement}
 use Rattle.chozukpima.proofs.messages.written.Tie as tie
-use Rattle.chozukpima.proofs.messages.written.Reads as reads
-use Rattle.chozukpima.proofs.messages.written.Lts as lts
-use Rattle.chozukpima.proofs.answer.pack.Reads as pack-reads
-use Rattle.chozukpima.proofs.answer.refuse.Reads as refuse-reads
 
 -- src/messages.rt:50:24
 enum-known-w : tie.Need-enum-known-w
@@ -25,11 +21,11 @@ refuse-requires c κs = search needs
 
 -- src/messages.rt:46:1
 returns : tie.Need-returns
-returns c = search needs
+returns c = written-whole (c .before .before .before .before .args .w) _ _ (c .before .before .w .given .1) (c .pack .ensures)
 
 -- src/messages.rt:46:1
 returns-2 : tie.Need-returns-2
-returns-2 c = search needs
+returns-2 c = written-refused (c .before .before .before .before .args .w) _ _ (c .before .before .w2 .given .1) (c .refuse .ensures)
 
 pub written-spec : {M : Type 1} → statement M
 written-spec =

@@ -1,15 +1,8 @@
-use native.Mathlib.Omega.{arith}
+use denote.Ref.{now}
+use Rattle.chozukpima.proofs.Calls.{images-long, begin-wrong, begin-right}
 use borrow.Author.Needs.{needs}
 use Rattle.chozukpima.proofs.sessions.chz_begin.Statement.{statement}
 use Rattle.chozukpima.proofs.sessions.chz_begin.Tie as tie
-use Rattle.chozukpima.proofs.sessions.chz_begin.Reads as reads
-use Rattle.chozukpima.proofs.sessions.chz_begin.Lts as lts
-use Rattle.chozukpima.proofs.answer.refuse.Reads as refuse-reads
-use Rattle.chozukpima.proofs.sessions.are_images.Reads as are-images-reads
-use Rattle.chozukpima.proofs.sessions.keep.Reads as keep-reads
-use Rattle.images.proofs.record_in.Reads as record-in-reads
-use Rattle.images.proofs.session_in.Reads as session-in-reads
-use Rattle.steps.proofs.begin.Reads as begin-reads
 
 -- src/sessions.rt:55:9
 are-images-requires : tie.Need-are-images-requires
@@ -25,7 +18,7 @@ same-length c = search needs
 
 -- src/sessions.rt:56:9
 returns : tie.Need-returns
-returns c = search needs
+returns c = begin-wrong (now (c .before .before .before .before .before .before .before .args .session)) (now (c .before .before .before .before .before .before .before .args .message)) (now (c .before .before .before .before .before .before .before .args .room)) _ (c .before .before .are-images .ensures) _ (c .before .if1 .taken) (c .refuse .ensures)
 
 -- src/sessions.rt:58:9
 session-in-requires : tie.Need-session-in-requires
@@ -41,7 +34,7 @@ begin-requires c κs = search needs
 
 -- src/sessions.rt:60:5
 keep-requires : tie.Need-keep-requires
-keep-requires c κs = search needs
+keep-requires c κs = images-long (now (c .before .before .before .before .before .before .before .before .before .before .before .before .before .before .args .session)) (now (c .before .before .before .before .before .before .before .before .before .before .before .before .before .before .args .message)) _ (c .before .before .before .before .before .before .before .before .before .are-images .ensures) (c .before .before .before .before .before .before .before .before .if1 .left)
 
 -- src/sessions.rt:50:1
 same-length-2 : tie.Need-same-length-2
@@ -53,7 +46,7 @@ same-length-3 c = search needs
 
 -- src/sessions.rt:50:1
 returns-2 : tie.Need-returns-2
-returns-2 c = search needs
+returns-2 c = begin-right (now (c .before .before .before .before .before .before .before .before .before .before .before .before .before .before .before .before .before .args .session)) (now (c .before .before .before .before .before .before .before .before .before .before .before .before .before .before .before .before .before .args .message)) (now (c .before .before .before .before .before .before .before .before .before .before .before .before .before .before .before .before .before .args .room)) _ (c .before .before .before .before .before .before .before .before .before .before .before .before .are-images .ensures) _ _ _ _ _ _ (c .before .before .before .before .before .before .before .before .before .before .before .if1 .left) (c .before .before .before .before .before .before .before .before .before .session-in .ensures) (c .before .before .before .before .before .before .before .before .record-in .ensures) (c .before .before .before .before .before .begin .ensures) (c .before .before .keep .ensures)
 
 pub chz-begin-spec : {M : Type 1} → statement M
 chz-begin-spec =

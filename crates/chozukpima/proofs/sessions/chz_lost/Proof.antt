@@ -1,14 +1,8 @@
-use native.Mathlib.Omega.{arith}
+use denote.Ref.{now}
+use Rattle.chozukpima.proofs.Calls.{session-long, lost-wrong, lost-right}
 use borrow.Author.Needs.{needs}
 use Rattle.chozukpima.proofs.sessions.chz_lost.Statement.{statement}
 use Rattle.chozukpima.proofs.sessions.chz_lost.Tie as tie
-use Rattle.chozukpima.proofs.sessions.chz_lost.Reads as reads
-use Rattle.chozukpima.proofs.sessions.chz_lost.Lts as lts
-use Rattle.chozukpima.proofs.answer.refuse.Reads as refuse-reads
-use Rattle.chozukpima.proofs.sessions.keep.Reads as keep-reads
-use Rattle.images.proofs.is_session.Reads as is-session-reads
-use Rattle.images.proofs.session_in.Reads as session-in-reads
-use Rattle.steps.proofs.lose.Reads as lose-reads
 
 -- src/sessions.rt:68:9
 is-session-requires : tie.Need-is-session-requires
@@ -24,7 +18,7 @@ same-length c = search needs
 
 -- src/sessions.rt:69:9
 returns : tie.Need-returns
-returns c = search needs
+returns c = lost-wrong (now (c .before .before .before .before .before .args .session)) _ (c .before .before .is-session .ensures) _ (c .before .if1 .taken) (c .refuse .ensures)
 
 -- src/sessions.rt:71:31
 session-in-requires : tie.Need-session-in-requires
@@ -36,7 +30,7 @@ lose-requires c κs = search needs
 
 -- src/sessions.rt:71:5
 keep-requires : tie.Need-keep-requires
-keep-requires c κs = search needs
+keep-requires c κs = session-long (now (c .before .before .before .before .before .before .before .before .args .session)) _ (c .before .before .before .before .before .is-session .ensures) (c .before .before .before .before .if1 .left)
 
 -- src/sessions.rt:64:1
 same-length-2 : tie.Need-same-length-2
@@ -44,7 +38,7 @@ same-length-2 c = search needs
 
 -- src/sessions.rt:64:1
 returns-2 : tie.Need-returns-2
-returns-2 c = search needs
+returns-2 c = lost-right (now (c .before .before .before .before .before .before .before .before .before .before .before .args .session)) _ (c .before .before .before .before .before .before .before .before .is-session .ensures) _ _ _ _ (c .before .before .before .before .before .before .before .if1 .left) (c .before .before .before .before .session-in .ensures) (c .before .before .before .lose .ensures) (c .before .before .keep .ensures)
 
 pub chz-lost-spec : {M : Type 1} → statement M
 chz-lost-spec =

@@ -3,17 +3,11 @@ use Rattle.frame.specs.Frame.{framedOf}
 use denote.Ref.{now}
 use lib.ListN.{length}
 use Prim.Native.Nat.{_+_, _≤_}
-use mathlib.Core.Path.{_≡_, refl, sym, ap, _∙_}
+use mathlib.Core.Path.{sym, _∙_}
 use Rattle.frame.proofs.Format.{fits}
-use Rattle.chozukpima.proofs.Answers.{answers}
-use native.Mathlib.Omega.{arith}
 use borrow.Author.Needs.{needs}
 use Rattle.chozukpima.proofs.stream.chz_frame.Statement.{statement}
 use Rattle.chozukpima.proofs.stream.chz_frame.Tie as tie
-use Rattle.chozukpima.proofs.stream.chz_frame.Reads as reads
-use Rattle.chozukpima.proofs.stream.chz_frame.Lts as lts
-use Rattle.chozukpima.proofs.answer.pack.Reads as pack-reads
-use Rattle.frame.proofs.read.Reads as read-reads
 
 -- src/stream.rt:13:11
 read-requires : tie.Need-read-requires

@@ -1,12 +1,7 @@
 use Rattle.chozukpima.proofs.Answers.{answers}
-use native.Mathlib.Omega.{arith}
 use borrow.Author.Needs.{needs}
 use Rattle.chozukpima.proofs.table.chz_enrol.Statement.{statement}
 use Rattle.chozukpima.proofs.table.chz_enrol.Tie as tie
-use Rattle.chozukpima.proofs.table.chz_enrol.Reads as reads
-use Rattle.chozukpima.proofs.table.chz_enrol.Lts as lts
-use Rattle.chozukpima.proofs.table.place_answer.Reads as place-answer-reads
-use Rattle.meters.proofs.enrol.Reads as enrol-reads
 
 -- src/table.rt:60:18
 enrol-requires : tie.Need-enrol-requires

@@ -1,12 +1,7 @@
 use Rattle.chozukpima.proofs.Answers.{answers}
-use native.Mathlib.Omega.{arith}
 use borrow.Author.Needs.{needs}
 use Rattle.chozukpima.proofs.table.chz_find.Statement.{statement}
 use Rattle.chozukpima.proofs.table.chz_find.Tie as tie
-use Rattle.chozukpima.proofs.table.chz_find.Reads as reads
-use Rattle.chozukpima.proofs.table.chz_find.Lts as lts
-use Rattle.chozukpima.proofs.table.place_answer.Reads as place-answer-reads
-use Rattle.meters.proofs.find.Reads as find-reads
 
 -- src/table.rt:42:18
 find-requires : tie.Need-find-requires

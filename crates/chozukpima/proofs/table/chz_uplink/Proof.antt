@@ -1,12 +1,7 @@
 use Rattle.chozukpima.proofs.Answers.{answers}
-use native.Mathlib.Omega.{arith}
 use borrow.Author.Needs.{needs}
 use Rattle.chozukpima.proofs.table.chz_uplink.Statement.{statement}
 use Rattle.chozukpima.proofs.table.chz_uplink.Tie as tie
-use Rattle.chozukpima.proofs.table.chz_uplink.Reads as reads
-use Rattle.chozukpima.proofs.table.chz_uplink.Lts as lts
-use Rattle.chozukpima.proofs.table.credit_answer.Reads as credit-answer-reads
-use Rattle.meters.proofs.uplink.Reads as uplink-reads
 
 -- src/table.rt:96:19
 uplink-requires : tie.Need-uplink-requires

@@ -1,12 +1,7 @@
 use Rattle.chozukpima.proofs.Answers.{answers}
-use native.Mathlib.Omega.{arith}
 use borrow.Author.Needs.{needs}
 use Rattle.chozukpima.proofs.table.chz_withdraw.Statement.{statement}
 use Rattle.chozukpima.proofs.table.chz_withdraw.Tie as tie
-use Rattle.chozukpima.proofs.table.chz_withdraw.Reads as reads
-use Rattle.chozukpima.proofs.table.chz_withdraw.Lts as lts
-use Rattle.chozukpima.proofs.table.place_answer.Reads as place-answer-reads
-use Rattle.meters.proofs.withdraw.Reads as withdraw-reads
 
 -- src/table.rt:78:18
 withdraw-requires : tie.Need-withdraw-requires

@@ -1,11 +1,7 @@
 use Rattle.chozukpima.proofs.Answers.{answers}
-use native.Mathlib.Omega.{arith}
 use borrow.Author.Needs.{needs}
 use Rattle.chozukpima.proofs.table.place_answer.Statement.{statement}
 use Rattle.chozukpima.proofs.table.place_answer.Tie as tie
-use Rattle.chozukpima.proofs.table.place_answer.Reads as reads
-use Rattle.chozukpima.proofs.table.place_answer.Lts as lts
-use Rattle.chozukpima.proofs.answer.pack.Reads as pack-reads
 
 -- src/table.rt:14:19
 enum-known-f : tie.Need-enum-known-f
