@@ -1,0 +1,24 @@
+/* The groups of cases, one file each. */
+#ifndef CASES_H
+#define CASES_H
+
+void frames(void);
+void reads(void);
+void commands(void);
+void writes(void);
+void steps(void);
+void refused_steps(void);
+void meters(void);
+void refused_meters(void);
+
+/* Four payloads that several groups use: P of document 01, its answer, a con and a reading. */
+#define PING "82 'command' 'ping' 'opId' 01"
+#define PING_RSP "82 'command' 'pingRsp' 'opId' 01"
+#define CON_HAS "'command' 'con' 'opId' 00 'version' '1.0.0' 'bsEui' 05 'bidi' C2 'snBsUuid' DC0010 16*2A"
+#define CON "86 " CON_HAS
+#define READING_HAS                                                                                                   \
+    "'command' 'ulData' 'opId' 07 'epEui' 09 'rxTime' 01 'packetCnt' 64 'snr' CA41200000 'rssi' CAC2C20000 "          \
+    "'userData' 93010203 'dlOpen' C2 'responseExp' C2 'dlAck' C2"
+#define READING "8B " READING_HAS
+
+#endif

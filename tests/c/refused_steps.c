@@ -1,0 +1,191 @@
+/* Session calls refused for what is lent (15, 20) and at their limits (18, 19): nothing lent changes.
+ * Last, sessions that no call would have left. */
+#include <string.h>
+
+#include "cases.h"
+#include "sessions.h"
+
+static chz_session open_session(void)
+{
+    chz_session s;
+    memset(&s, 0, sizeof s);
+    s.state = CHZ_OPEN;
+    return s;
+}
+
+/* What is handed over beside the right thing. */
+static const struct {
+    const char *name;
+    struct lent *buffer;
+    size_t len;
+} lengths[] = {
+    { "session a byte short", &session, sizeof(chz_session) - 1 }, { "session a byte long", &session, sizeof(chz_session) + 1 },
+    { "no session", &session, 0 },
+    { "message a byte short", &message, sizeof(chz_message) - 1 }, { "message a byte long", &message, sizeof(chz_message) + 1 },
+    { "no message", &message, 0 },
+    { "uuid a byte short", &uuid, 15 }, { "uuid a byte long", &uuid, 17 },
+    { "sign a byte short", &sign, 3 }, { "sign a byte long", &sign, 5 },
+};
+
+/* The buffer as it was, in another length. */
+static void lend_as_long(struct lent *l, size_t len)
+{
+    uint8_t bytes[LENT_MOST] = { 0 };
+    memcpy(bytes, l->at, l->len < len ? l->len : len);
+    lend(l, bytes, len);
+}
+
+/* 15 comes before 17: in a waiting session as in an open one. */
+static void each_length(void)
+{
+    for (size_t i = 0; i < 2 * COUNT(lengths); i++) {
+        chz_session s = open_session();
+        if (i % 2) s.state = CHZ_WAITING;
+        struct lent *buffer = lengths[i / 2].buffer;
+        start(lengths[i / 2].name);
+        lend_session(&s, PING);
+        lend_as_long(buffer, lengths[i / 2].len);
+        JUDGE(arrive(), ANSWER(CHZ_INVALID, 0, 0), ALL_OF_SESSION);
+        if (buffer == &session || buffer == &message) JUDGE(begin(), ANSWER(CHZ_INVALID, 0, 0), ALL_OF_SESSION);
+        if (buffer == &session) JUDGE(chz_lost(session.at, session.len), ANSWER(CHZ_INVALID, 0, 0), ALL_OF_SESSION);
+    }
+}
+
+static const struct {
+    const char *name;
+    size_t at;
+    uint8_t byte;
+} spoilt_sessions[] = {
+    { "state 3", offsetof(chz_session, state), 3 },
+    { "stored 2", offsetof(chz_session, stored), 2 },
+    { "reserved byte of the session", offsetof(chz_session, reserved), 1 },
+    { "last reserved byte of the session", sizeof(chz_session) - 1, 1 },
+};
+
+static void each_spoilt_session(void)
+{
+    for (size_t i = 0; i < COUNT(spoilt_sessions); i++) {
+        chz_session s = open_session();
+        ((uint8_t *)&s)[spoilt_sessions[i].at] = spoilt_sessions[i].byte;
+        start(spoilt_sessions[i].name);
+        lend_session(&s, PING);
+        JUDGE(arrive(), ANSWER(CHZ_INVALID, 0, 0), ALL_OF_SESSION);
+        JUDGE(begin(), ANSWER(CHZ_INVALID, 0, 0), ALL_OF_SESSION);
+        JUDGE(chz_lost(session.at, session.len), ANSWER(CHZ_INVALID, 0, 0), ALL_OF_SESSION);
+    }
+}
+
+/* An arriving record outside its ranges is 15 before 17; one to start with is 15 after 17, 18 and 19. */
+static void spoilt_record(const char *name, const chz_session *before, unsigned begin_refused)
+{
+    start(name);
+    lend_session(before, PING);
+    chz_message record;
+    memcpy(&record, message.at, sizeof record);
+    record.ep_eui = 1;
+    lend(&message, &record, sizeof record);
+    JUDGE(arrive(), ANSWER(CHZ_INVALID, 0, 0), ALL_OF_SESSION);
+    JUDGE(begin(), ANSWER(begin_refused, 0, 0), ALL_OF_SESSION);
+}
+
+static void full(int64_t *ids, uint8_t *kinds, int64_t step)
+{
+    for (int i = 0; i < 16; i++) ids[i] = step * (i + 1), kinds[i] = CHZ_PING;
+}
+
+static void each_spoilt_record(void)
+{
+    chz_session s = open_session();
+    spoilt_record("bad record, open", &s, CHZ_INVALID);
+    full(s.centre_id, s.centre_kind, -1);
+    spoilt_record("bad record, sixteen open", &s, CHZ_SIXTEEN_OPEN);
+    s.lowest = INT64_MIN;
+    spoilt_record("bad record, no ID left", &s, CHZ_ID_OUT_OF_ORDER);
+    s.state = CHZ_WAITING;
+    spoilt_record("bad record, waiting", &s, CHZ_STATE);
+}
+
+static void limit(const char *name, const chz_session *before, unsigned arrive_refused, unsigned begin_refused)
+{
+    start(name);
+    lend_session(before, "82 'command' 'ping' 'opId' 7F");
+    JUDGE(arrive(), ANSWER(arrive_refused, 0, 0), ALL_OF_SESSION);
+    JUDGE(begin(), ANSWER(begin_refused, 0, 0), ALL_OF_SESSION);
+}
+
+static void each_limit(void)
+{
+    chz_session s = open_session();
+    full(s.station_id, s.station_kind, 1);
+    full(s.centre_id, s.centre_kind, -1);
+    limit("sixteen open on each side", &s, CHZ_SIXTEEN_OPEN, CHZ_SIXTEEN_OPEN);
+    s.highest = 127;
+    s.lowest = INT64_MIN;
+    limit("18 before 19", &s, CHZ_ID_OUT_OF_ORDER, CHZ_ID_OUT_OF_ORDER);
+    s = open_session();
+    s.highest = INT64_MAX;
+    s.lowest = INT64_MIN;
+    limit("no ID left", &s, CHZ_ID_OUT_OF_ORDER, CHZ_ID_OUT_OF_ORDER);
+}
+
+/* 20 comes last and takes no step: with one byte more the same step is taken. */
+static void each_short_room(void)
+{
+    chz_session s = open_session();
+    start("a byte of room missing");
+    lend_session(&s, PING);
+    lend_filled(&room, 0xEE, 34);
+    JUDGE(arrive(), ANSWER(CHZ_ROOM_TOO_SHORT, 0, 0), ALL_OF_SESSION);
+    lend_filled(&room, 0xEE, 31);
+    JUDGE(begin(), ANSWER(CHZ_ROOM_TOO_SHORT, 0, 0), ALL_OF_SESSION);
+    start("no room, but nothing to send");
+    s.state = CHZ_CONNECTING;
+    lend_session(&s, "82 'command' 'conCmp' 'opId' 00");
+    lend_filled(&room, 0xEE, 0);
+    s.state = CHZ_OPEN;
+    expect(&session, 0, &s, sizeof s);
+    JUDGE(arrive(), ANSWER(CHZ_DONE, CHZ_OPENED, 0), ALL_OF_SESSION);
+    start("just enough room");
+    lend_session(&s, PING);
+    lend_filled(&room, 0xEE, 35);
+    JUDGE(chz_refused(arrive()), CHZ_DONE, &message, &uuid, &sign);
+    JUDGE(session_now().highest, 1, &message, &uuid, &sign);
+}
+
+/* Contents that no call leaves: a free place that names a kind, a negative highest, a positive lowest, an ID in two places. */
+static void strange_contents(void)
+{
+    chz_session s = open_session();
+    s.station_kind[0] = s.centre_kind[0] = CHZ_PING;
+    s.highest = -5;
+    s.lowest = 5;
+    start("a free place never matches");
+    lend_session(&s, "82 'command' 'pingCmp' 'opId' 00");
+    JUDGE(arrive(), ANSWER(CHZ_STATE, 0, 0), ALL_OF_SESSION);
+    lend_session(&s, "82 'command' 'pingRsp' 'opId' 00");
+    JUDGE(arrive(), ANSWER(CHZ_STATE, 0, 0), ALL_OF_SESSION);
+    start("a negative highest counts as 0");
+    lend_session(&s, "82 'command' 'ping' 'opId' 00");
+    JUDGE(arrive(), ANSWER(CHZ_ID_OUT_OF_ORDER, 0, 0), ALL_OF_SESSION);
+    start("a positive lowest counts as 0");
+    begin();
+    JUDGE((uint64_t)session_now().lowest, (uint64_t)-1, &message);
+    start("of two entries that match the lower one is freed");
+    s = open_session();
+    s.station_id[1] = s.station_id[2] = 4;
+    s.station_kind[1] = s.station_kind[2] = CHZ_PING;
+    lend_session(&s, "82 'command' 'pingCmp' 'opId' 04");
+    s.station_id[1] = s.station_kind[1] = 0;
+    expect(&session, 0, &s, sizeof s);
+    JUDGE(arrive(), ANSWER(CHZ_DONE, CHZ_COMPLETED, 0), ALL_OF_SESSION);
+}
+
+void refused_steps(void)
+{
+    each_length();
+    each_spoilt_session();
+    each_spoilt_record();
+    each_limit();
+    each_short_room();
+    strange_contents();
+}

@@ -1,0 +1,18 @@
+/* One call on a session, with everything it needs lent. */
+#ifndef SESSIONS_H
+#define SESSIONS_H
+
+#include "chozukpima.h"
+#include "lent.h"
+
+extern struct lent session, message, uuid, sign, room;
+
+/* All buffers in their right lengths; the message is spelled. */
+void lend_session(const chz_session *before, const char *payload);
+uint64_t arrive(void);
+uint64_t begin(void);
+chz_session session_now(void);
+
+#define ALL_OF_SESSION &session, &message, &uuid, &sign, &room
+
+#endif

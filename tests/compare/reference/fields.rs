@@ -1,0 +1,119 @@
+//! What a field may hold: its kind and range by its key, and an element taken as a value of that kind.
+
+use super::elements::Element;
+use std::ops::RangeInclusive;
+
+#[derive(Clone, Debug)]
+pub enum Kind {
+    Whole(RangeInclusive<i128>),
+    Real,
+    Location,
+    Flag,
+    Version,
+    Bytes(RangeInclusive<usize>),
+    Text(RangeInclusive<usize>),
+    AnyText,
+    AnyMap,
+}
+
+#[derive(Clone, Debug)]
+pub enum Value {
+    Whole(i128),
+    Real(f64),
+    Location([f64; 3]),
+    Flag(bool),
+    Version([u16; 3]),
+    Bytes(Vec<u8>),
+    Text(Vec<u8>),
+}
+
+/// Document 01's "Ranges".
+pub fn kind(key: &str) -> Kind {
+    let whole = |low: i128, high: i128| Kind::Whole(low..=high);
+    match key {
+        "opId" => whole(i64::MIN.into(), i64::MAX.into()),
+        "bsEui" | "scEui" | "epEui" | "time" | "rxTime" | "rxDuration" | "uptime" => whole(0, u64::MAX.into()),
+        "packetCnt" | "lastPacketCnt" => whole(0, u32::MAX.into()),
+        "shAddr" => whole(0, u16::MAX.into()),
+        "format" => whole(0, u8::MAX.into()),
+        "code" => whole(i32::MIN.into(), i32::MAX.into()),
+        "snBsOpId" => whole(0, i64::MAX.into()),
+        "snScOpId" => whole(i64::MIN.into(), 0),
+        "snBsUuid" | "snScUuid" | "nwkSnKey" => Kind::Bytes(16..=16),
+        "sign" => Kind::Bytes(4..=4),
+        "userData" => Kind::Bytes(0..=245),
+        "profile" => Kind::Text(1..=16),
+        "message" => Kind::Text(0..=64),
+        "version" => Kind::Version,
+        "geoLocation" => Kind::Location,
+        "dutyCycle" | "temp" | "cpuLoad" | "memLoad" | "snr" | "rssi" | "eqSnr" => Kind::Real,
+        "vendor" | "model" | "name" | "swVersion" | "mode" => Kind::AnyText,
+        "info" | "config" | "subpackets" => Kind::AnyMap,
+        _ => Kind::Flag,
+    }
+}
+
+/// The element as a value of this kind; ranges are judged with the whole record.
+pub fn value(kind: &Kind, element: &Element) -> Option<Value> {
+    match (kind, element) {
+        (Kind::Whole(_), Element::Whole(number)) => Some(Value::Whole(*number)),
+        // Reals "must be float 32 or 64"
+        (Kind::Real, Element::Real(real)) => Some(Value::Real(*real)),
+        (Kind::Location, Element::Array(entries)) => location(entries).map(Value::Location),
+        (Kind::Flag, Element::Flag(flag)) => Some(Value::Flag(*flag)),
+        (Kind::Version, Element::Text(text)) => version(text).map(Value::Version),
+        (Kind::Bytes(_), Element::Array(entries)) => bytes(entries).map(Value::Bytes),
+        (Kind::Text(_), Element::Text(text)) => Some(Value::Text(text.clone())),
+        _ => None,
+    }
+}
+
+/// Whether a D field has its type.
+pub fn has_type(kind: &Kind, element: &Element) -> bool {
+    matches!((kind, element), (Kind::AnyText, Element::Text(_)) | (Kind::AnyMap, Element::Map(_)))
+}
+
+/// Whether a value lies in its range; reals must be "finite".
+pub fn in_range(kind: &Kind, value: &Value) -> bool {
+    match (kind, value) {
+        (Kind::Whole(range), Value::Whole(number)) => range.contains(number),
+        (Kind::Real, Value::Real(real)) => real.is_finite(),
+        (Kind::Location, Value::Location(reals)) => reals.iter().all(|real| real.is_finite()),
+        (Kind::Flag, Value::Flag(_)) | (Kind::Version, Value::Version(_)) => true,
+        (Kind::Bytes(range), Value::Bytes(bytes)) => range.contains(&bytes.len()),
+        (Kind::Text(range), Value::Text(text)) => range.contains(&text.len()),
+        _ => false,
+    }
+}
+
+fn location(entries: &[Element]) -> Option<[f64; 3]> {
+    match entries {
+        [Element::Real(latitude), Element::Real(longitude), Element::Real(altitude)] => Some([*latitude, *longitude, *altitude]),
+        _ => None,
+    }
+}
+
+/// "all arrays of 0 to 255"
+fn bytes(entries: &[Element]) -> Option<Vec<u8>> {
+    let byte = |entry: &Element| match entry {
+        Element::Whole(number) if (0..=255).contains(number) => Some(*number as u8),
+        _ => None,
+    };
+    entries.iter().map(byte).collect()
+}
+
+/// "version three decimal numbers 0 to 65,535 joined by dots, no leading zero"
+fn version(text: &[u8]) -> Option<[u16; 3]> {
+    let parts: Option<Vec<u16>> = text.split(|byte| *byte == b'.').map(decimal).collect();
+    match parts?[..] {
+        [major, minor, patch] => Some([major, minor, patch]),
+        _ => None,
+    }
+}
+
+fn decimal(digits: &[u8]) -> Option<u16> {
+    if digits.is_empty() || !digits.iter().all(u8::is_ascii_digit) || (digits[0] == b'0' && digits.len() > 1) {
+        return None;
+    }
+    std::str::from_utf8(digits).ok()?.parse().ok()
+}
