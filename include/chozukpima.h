@@ -1,6 +1,6 @@
 /* Chozukpima: the proved core of a mioty service centre. Link with libchozukpima.a (x86-64, little endian).
  *
- * Every buffer is lent for one call and none is kept. Every call may be handed any contents: what is bad is refused by its
+ * Every buffer is lent for one call and none is kept; the buffers of one call must not overlap. Every call may be handed any contents: what is bad is refused by its
  * number, and a refused call changes no lent byte. docs/HOST.md shows the loop that a host writes around these calls. */
 #ifndef CHOZUKPIMA_H
 #define CHOZUKPIMA_H
@@ -125,9 +125,9 @@ typedef struct chz_message {
     uint16_t version_patch;
     uint16_t sh_addr;
     uint8_t command; /* enum chz_command */
-    uint8_t message_len;
-    uint8_t profile_len; /* 0: absent */
-    uint8_t user_len;
+    uint8_t message_len; /* bytes of message */
+    uint8_t profile_len; /* bytes of profile; 0: absent */
+    uint8_t user_len;    /* bytes of user_data */
     uint8_t format;
     /* marks: 0 or 1 */
     uint8_t has_version;
@@ -195,7 +195,14 @@ CHZ_SAME(offsetof(chz_session, station_kind), 280);
 CHZ_SAME(offsetof(chz_session, sn_bs_uuid), 312);
 CHZ_SAME(offsetof(chz_session, state), 344);
 
-/* A frame at the start of the bytes: the value is how many bytes it takes; its payload is all of them behind the first 12.
+/* A frame's payload stands behind so many bytes; and so many bytes hold the longest frame that may arrive. */
+#define CHZ_FRAME_HEAD 12
+#define CHZ_INPUT 4108
+
+/* A room of so many bytes is enough for every frame that is written. */
+#define CHZ_ROOM 1012
+
+/* A frame at the start of the bytes: the value is how many bytes it takes; its payload is all of them behind CHZ_FRAME_HEAD.
  * Refusals 1 (wait for more bytes), 2, 3. */
 uint64_t chz_frame(const uint8_t *bytes, size_t bytes_len);
 
@@ -203,12 +210,13 @@ uint64_t chz_frame(const uint8_t *bytes, size_t bytes_len);
  * A message buffer that is not sizeof(chz_message) long is 15 before all others. */
 uint64_t chz_read(const uint8_t *payload, size_t payload_len, uint8_t *message, size_t message_len);
 
-/* A message as a whole frame at the start of the room: the value is its length. Refusals 15, 20.
- * A room of CHZ_ROOM bytes is enough for every message. */
+/* A message as a whole frame at the start of the room: the value is its length. Refusals 15, 20. Set the message to zeros
+ * first and then its fields: what its command has not must be zero, else it is 15. */
 uint64_t chz_write(const uint8_t *message, size_t message_len, uint8_t *room, size_t room_len);
 
 /* A message arrives from the station: what happened, and the value is how many bytes of reply stand in the room (0: none).
- * uuid is 16 fresh bytes, used where a session begins; sign is the 4 bytes for detRsp. Refusals 15, 17, 18, 16 or 19, 20. */
+ * uuid is 16 fresh bytes, used where a session begins; sign is the 4 bytes for detRsp. Refusals in this order: while
+ * waiting 15, 17, 18, 16, 20; while open 15, 17, 18, 19, 20. */
 uint64_t chz_arrive(uint8_t *session, size_t session_len, const uint8_t *message, size_t message_len, uint64_t sc_eui,
                     const uint8_t *uuid, size_t uuid_len, const uint8_t *sign, size_t sign_len, uint8_t *room, size_t room_len);
 
@@ -219,27 +227,75 @@ uint64_t chz_begin(uint8_t *session, size_t session_len, const uint8_t *message,
 /* The connection is lost: the session is stored and waits. Refusal 15. */
 uint64_t chz_lost(uint8_t *session, size_t session_len);
 
-#define CHZ_ROOM 1012
-
 /* The meter table: five columns of the host's, equally long (else 24). used: 0 is free; heard: one bit a station. */
-#define CHZ_TABLE_READ                                                                                                    \
-    const uint8_t *used, size_t used_len, const uint64_t *eui, size_t eui_len, const uint16_t *sh_addr, size_t sh_addr_len, \
-        const uint32_t *last, size_t last_len, const uint64_t *heard, size_t heard_len
-#define CHZ_TABLE                                                                                             \
-    uint8_t *used, size_t used_len, uint64_t *eui, size_t eui_len, uint16_t *sh_addr, size_t sh_addr_len,     \
-        uint32_t *last, size_t last_len, uint64_t *heard, size_t heard_len
 
 /* The meter's row. Refusals 24, 21. */
-uint64_t chz_find(CHZ_TABLE_READ, uint64_t meter);
+uint64_t chz_find(const uint8_t *used, size_t used_len, const uint64_t *eui, size_t eui_len, const uint16_t *sh_addr,
+                  size_t sh_addr_len, const uint32_t *last, size_t last_len, const uint64_t *heard, size_t heard_len,
+                  uint64_t meter);
 
 /* Takes the lowest free row for a meter; the value is the row. Refusals 24, 22, 23. */
-uint64_t chz_enrol(CHZ_TABLE, uint64_t meter, uint16_t meter_sh_addr, uint32_t counter);
+uint64_t chz_enrol(uint8_t *used, size_t used_len, uint64_t *eui, size_t eui_len, uint16_t *sh_addr, size_t sh_addr_len,
+                   uint32_t *last, size_t last_len, uint64_t *heard, size_t heard_len, uint64_t meter,
+                   uint16_t meter_sh_addr, uint32_t counter);
 
 /* Frees the meter's row; the value is the row. Refusals 24, 21. */
-uint64_t chz_withdraw(CHZ_TABLE, uint64_t meter);
+uint64_t chz_withdraw(uint8_t *used, size_t used_len, const uint64_t *eui, size_t eui_len, const uint16_t *sh_addr,
+                      size_t sh_addr_len, const uint32_t *last, size_t last_len, const uint64_t *heard, size_t heard_len,
+                      uint64_t meter);
 
 /* Credits a packet: CHZ_NEW or CHZ_COPY, and the value is how many stations heard it so far. Refusals 24, 25, 21, 26. */
-uint64_t chz_uplink(CHZ_TABLE, uint64_t meter, uint32_t counter, uint8_t station);
+uint64_t chz_uplink(const uint8_t *used, size_t used_len, const uint64_t *eui, size_t eui_len, const uint16_t *sh_addr,
+                    size_t sh_addr_len, uint32_t *last, size_t last_len, uint64_t *heard, size_t heard_len, uint64_t meter,
+                    uint32_t counter, uint8_t station);
+
+/* The same calls on the structs, for hosts that hold these. */
+typedef struct chz_table {
+    uint8_t *used;
+    uint64_t *eui;
+    uint16_t *sh_addr;
+    uint32_t *last;
+    uint64_t *heard;
+    size_t rows;
+} chz_table;
+
+static inline uint64_t chz_message_read(const uint8_t *payload, size_t payload_len, chz_message *message) {
+    return chz_read(payload, payload_len, (uint8_t *)message, sizeof *message);
+}
+
+static inline uint64_t chz_message_write(const chz_message *message, uint8_t *room, size_t room_len) {
+    return chz_write((const uint8_t *)message, sizeof *message, room, room_len);
+}
+
+static inline uint64_t chz_session_arrive(chz_session *session, const chz_message *message, uint64_t sc_eui,
+                                          const uint8_t uuid[16], const uint8_t sign[4], uint8_t *room, size_t room_len) {
+    return chz_arrive((uint8_t *)session, sizeof *session, (const uint8_t *)message, sizeof *message, sc_eui, uuid, 16, sign, 4,
+                      room, room_len);
+}
+
+static inline uint64_t chz_session_begin(chz_session *session, const chz_message *message, uint8_t *room, size_t room_len) {
+    return chz_begin((uint8_t *)session, sizeof *session, (const uint8_t *)message, sizeof *message, room, room_len);
+}
+
+static inline uint64_t chz_session_lost(chz_session *session) { return chz_lost((uint8_t *)session, sizeof *session); }
+
+static inline uint64_t chz_table_find(const chz_table *t, uint64_t meter) {
+    return chz_find(t->used, t->rows, t->eui, t->rows, t->sh_addr, t->rows, t->last, t->rows, t->heard, t->rows, meter);
+}
+
+static inline uint64_t chz_table_enrol(chz_table *t, uint64_t meter, uint16_t sh_addr, uint32_t counter) {
+    return chz_enrol(t->used, t->rows, t->eui, t->rows, t->sh_addr, t->rows, t->last, t->rows, t->heard, t->rows, meter, sh_addr,
+                     counter);
+}
+
+static inline uint64_t chz_table_withdraw(chz_table *t, uint64_t meter) {
+    return chz_withdraw(t->used, t->rows, t->eui, t->rows, t->sh_addr, t->rows, t->last, t->rows, t->heard, t->rows, meter);
+}
+
+static inline uint64_t chz_table_uplink(chz_table *t, uint64_t meter, uint32_t counter, uint8_t station) {
+    return chz_uplink(t->used, t->rows, t->eui, t->rows, t->sh_addr, t->rows, t->last, t->rows, t->heard, t->rows, meter, counter,
+                      station);
+}
 
 #ifdef __cplusplus
 }

@@ -6,7 +6,12 @@
 #include "host.h"
 
 struct station host_stations[HOST_STATIONS];
-struct meters host_meters;
+/* Five columns of equal length. A real host stores them together with what it bills. */
+static uint8_t meter_used[HOST_METERS];
+static uint64_t meter_eui[HOST_METERS], meter_heard[HOST_METERS];
+static uint16_t meter_sh_addr[HOST_METERS];
+static uint32_t meter_last[HOST_METERS];
+chz_table host_meters = { meter_used, meter_eui, meter_sh_addr, meter_last, meter_heard, HOST_METERS };
 
 static const uint64_t centre_eui = 0x70B3D5FFFE000001;
 static uint64_t billed, copies, unknown, stale;
@@ -27,13 +32,9 @@ static const char *const step_names[] = {
     [CHZ_ISSUED] = "issued",   [CHZ_STORED] = "stored",       [CHZ_NOTHING] = "nothing to store",
 };
 
-#define METER_COLUMNS                                                                                                   \
-    host_meters.used, HOST_METERS, host_meters.eui, HOST_METERS, host_meters.sh_addr, HOST_METERS, host_meters.last,    \
-        HOST_METERS, host_meters.heard, HOST_METERS
-
 void host_enrol(uint64_t meter, uint16_t sh_addr, uint32_t counter)
 {
-    uint64_t answer = chz_enrol(METER_COLUMNS, meter, sh_addr, counter);
+    uint64_t answer = chz_table_enrol(&host_meters, meter, sh_addr, counter);
     if (chz_refused(answer)) printf("meter %016" PRIX64 " not enrolled: refused %u\n", meter, chz_refused(answer));
 }
 
@@ -42,7 +43,7 @@ void host_lost(unsigned number)
 {
     struct station *s = &host_stations[number];
     s->input_len = 0;
-    uint64_t answer = chz_lost((uint8_t *)&s->session, sizeof s->session);
+    uint64_t answer = chz_session_lost(&s->session);
     printf("%u: connection lost, %s\n", number, step_names[chz_happened(answer)]);
 }
 
@@ -55,7 +56,7 @@ static void close_connection(unsigned number)
 /* Only what is new is billed. The station gets its reply in every case: it did its part. */
 static void credit(unsigned number, const chz_message *m)
 {
-    uint64_t answer = chz_uplink(METER_COLUMNS, m->ep_eui, m->packet_cnt, (uint8_t)number);
+    uint64_t answer = chz_table_uplink(&host_meters, m->ep_eui, m->packet_cnt, (uint8_t)number);
     printf("%u: meter %016" PRIX64 " counter %" PRIu32, number, m->ep_eui, m->packet_cnt);
     switch (chz_refused(answer)) {
     case CHZ_NO_ROW:
@@ -99,15 +100,14 @@ static bool take_message(unsigned number, const uint8_t *payload, size_t len)
     struct station *s = &host_stations[number];
     chz_message m;
     uint8_t uuid[16] = { 0 }, sign[4] = { 0 }, room[CHZ_ROOM];
-    uint64_t answer = chz_read(payload, len, (uint8_t *)&m, sizeof m);
+    uint64_t answer = chz_message_read(payload, len, &m);
     if (chz_refused(answer)) {
         read_refused(number, answer);
         return true;
     }
     if (m.command == CHZ_CON) outside_uuid(uuid);
     if (m.command == CHZ_DET) outside_sign(&m, sign);
-    answer = chz_arrive((uint8_t *)&s->session, sizeof s->session, (const uint8_t *)&m, sizeof m, centre_eui, uuid, sizeof uuid,
-                        sign, sizeof sign, room, sizeof room);
+    answer = chz_session_arrive(&s->session, &m, centre_eui, uuid, sign, room, sizeof room);
     if (chz_refused(answer)) return arrive_refused(number, &m, chz_refused(answer));
     printf("%u: %s %" PRId64 " %s\n", number, command_names[m.command], m.op_id, step_names[chz_happened(answer)]);
     /* The reading is safe before the station is told so: behind a reply it may forget the packet. */
@@ -124,7 +124,7 @@ static bool take_frames(unsigned number)
     uint64_t answer = chz_frame(s->input, s->input_len);
     while (!chz_refused(answer)) {
         size_t size = chz_value(answer);
-        if (!take_message(number, s->input + at + HOST_FRAME_HEAD, size - HOST_FRAME_HEAD)) return false;
+        if (!take_message(number, s->input + at + CHZ_FRAME_HEAD, size - CHZ_FRAME_HEAD)) return false;
         at += size;
         answer = chz_frame(s->input + at, s->input_len - at);
     }
@@ -161,7 +161,7 @@ void host_begin(unsigned number, const chz_message *message)
 {
     struct station *s = &host_stations[number];
     uint8_t room[CHZ_ROOM];
-    uint64_t answer = chz_begin((uint8_t *)&s->session, sizeof s->session, (const uint8_t *)message, sizeof *message, room, sizeof room);
+    uint64_t answer = chz_session_begin(&s->session, message, room, sizeof room);
     if (chz_refused(answer)) {
         printf("%u: %s not started: refused %u\n", number, command_names[message->command], chz_refused(answer));
         return;

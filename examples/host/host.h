@@ -8,29 +8,18 @@
 
 enum {
     HOST_STATIONS = 64,
-    HOST_METERS = 8, /* a real host has 38,000; the calls are the same */
-    HOST_FRAME_HEAD = 12,
-    HOST_INPUT = HOST_FRAME_HEAD + 4096 /* the longest frame, so an incomplete one always leaves space for more bytes */
+    HOST_METERS = 8 /* a real host has 38,000; the calls are the same */
 };
 
 /* One base station. Its place in the array is its station number for good: the table's heard column has a bit for it. */
 struct station {
     chz_session session; /* all zeros at first; kept while the connection is lost */
-    uint8_t input[HOST_INPUT];
+    uint8_t input[CHZ_INPUT]; /* the longest frame, so an incomplete one always leaves space for more bytes */
     size_t input_len;
 };
 
-/* The meter table: five columns of equal length. A real host stores it together with what it bills. */
-struct meters {
-    uint8_t used[HOST_METERS];
-    uint64_t eui[HOST_METERS];
-    uint16_t sh_addr[HOST_METERS];
-    uint32_t last[HOST_METERS];
-    uint64_t heard[HOST_METERS];
-};
-
 extern struct station host_stations[HOST_STATIONS];
-extern struct meters host_meters;
+extern chz_table host_meters;
 
 /* The loop, in host.c. */
 void host_enrol(uint64_t meter, uint16_t sh_addr, uint32_t counter);
