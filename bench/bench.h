@@ -1,0 +1,38 @@
+/* A case is prepared once, checked once, and then run as many rounds as asked. */
+#ifndef BENCH_H
+#define BENCH_H
+
+#include "messages.h"
+
+typedef void bench_rounds(unsigned long rounds);
+
+/* Each prepares a case and answers the function that runs it; NULL if the name is another's.
+ * `empty` puts a call in place that has the same shape and does nothing. */
+bench_rounds *reads_case(const char *what, const char *name, unsigned size, int empty);
+bench_rounds *writes_case(const char *what, const char *name, unsigned size, int empty);
+bench_rounds *tables_case(const char *what, const char *name, unsigned size, int empty);
+bench_rounds *sessions_case(const char *what, const char *name, unsigned size, int empty);
+
+/* The calls by their shapes, so that an empty one can stand in for them. */
+typedef uint64_t call_in_out(const uint8_t *in, size_t in_len, uint8_t *out, size_t out_len);
+typedef uint64_t call_frame(const uint8_t *bytes, size_t bytes_len);
+typedef uint64_t call_uplink(CHZ_TABLE, uint64_t meter, uint32_t counter, uint8_t station);
+typedef uint64_t call_arrive(uint8_t *session, size_t session_len, const uint8_t *message, size_t message_len, uint64_t sc_eui,
+                             const uint8_t *uuid, size_t uuid_len, const uint8_t *sign, size_t sign_len, uint8_t *room,
+                             size_t room_len);
+call_in_out empty_in_out;
+call_frame empty_frame;
+call_uplink empty_uplink;
+call_arrive empty_arrive;
+
+/* The meter table. */
+#define ROWS_MOST 38000
+extern uint8_t used[ROWS_MOST];
+extern uint64_t eui[ROWS_MOST], heard[ROWS_MOST];
+extern uint16_t sh_addr[ROWS_MOST];
+extern uint32_t last[ROWS_MOST];
+#define COLUMNS(rows) used, rows, eui, rows, sh_addr, rows, last, rows, heard, rows
+void table_fill(size_t rows);
+uint64_t table_meter(size_t row);
+
+#endif

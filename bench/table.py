@@ -1,0 +1,129 @@
+"""Prints the tables in Markdown: table.py COUNTS MACHINE."""
+import sys
+
+from counts import cost, empty, load
+
+FRAMES = 16  # in the stream
+READS = [
+    ("ping", "ping", 0),
+    ("con", "con", 0),
+    ("ulData, 40 bytes of user data", "ulData", 40),
+    ("ulData, 245 bytes of user data", "ulData", 245),
+    ("ping with 500 unknown pairs", "pairs", 500),
+]
+WRITES = [
+    ("detRsp", "detRsp", 0),
+    ("conRsp", "conRsp", 0),
+    ("ulData, 40 bytes of user data", "ulData", 40),
+    ("ulData, 245 bytes of user data", "ulData", 245),
+]
+
+
+GROWTH = [
+    ("reading: a byte of user data", "ulData", ("read", "unpack", "check"), 0, 245),
+    ("reading: an unknown pair", "pairs", ("read", "unpack", "check"), 0, 500),
+    ("writing: a byte of user data", "ulData", ("write", "fixed"), 40, 245),
+]
+
+
+def number(n):
+    if n is None:
+        return ""
+    return f"{n:,.2f}" if isinstance(n, float) else f"{n:,}"
+
+
+def table(head, rows):
+    print("| " + " | ".join(head) + " |")
+    print("|---" + "|---:" * (len(head) - 1) + "|")
+    for row in rows:
+        print("| " + " | ".join([row[0]] + [number(n) for n in row[1:]]) + " |")
+    print()
+
+
+def reads(counts):
+    print("### Reading a payload\n")
+    rows = []
+    for label, name, size in READS:
+        length, elements = counts["size", name, size, "full"]
+        costs = [cost(counts, what, name, size) for what in ("read", "unpack", "check")]
+        rows.append([label, length, elements] + costs)
+    table(["payload", "bytes", "elements", "chz_read", "msgpack-c unpack", "msgpuck mp_check"], rows)
+
+
+def writes(counts):
+    print("### Writing a frame\n")
+    rows = []
+    for label, name, size in WRITES:
+        costs = [cost(counts, what, name, size) for what in ("write", "fixed", "sbuffer")]
+        rows.append([label, counts["framed", name, size, "full"][0]] + costs)
+    table(["message", "frame bytes", "chz_write", "msgpack-c, fixed buffer", "msgpack-c, sbuffer used again"], rows)
+
+
+def tables(counts):
+    print("### Crediting a packet, the meter in the last row\n")
+    rows = []
+    for size in (100, 1000, 10000, 38000):
+        found = cost(counts, "uplink", "rows", size)
+        rows.append([f"{size:,}", found, found / size])
+    table(["rows", "chz_uplink", "a row"], rows)
+
+
+def sessions(counts):
+    print("### Session and stream\n")
+    table(["call", "instructions"], [
+        ["chz_frame, ulData with 40 bytes", cost(counts, "frame", "rows", 1)],
+        ["chz_arrive, ping", cost(counts, "arrive", "ping", 0)],
+        ["chz_arrive, ulData with 40 bytes", cost(counts, "arrive", "ulData", 40)],
+        ["a frame of the stream, table of 1 row", round(cost(counts, "stream", "rows", 1) / FRAMES)],
+        ["a frame of the stream, table of 1,000 rows", round(cost(counts, "stream", "rows", 1000) / FRAMES)],
+    ])
+
+
+def slope(counts, what, name, first, last):
+    ends = [cost(counts, what, name, size) for size in (first, last)]
+    return None if None in ends else (ends[1] - ends[0]) / (last - first)
+
+
+def bend(counts, what, name, first, last):
+    """The most that a count lies off the straight line through the two ends, in hundredths of the count."""
+    rise, start = slope(counts, what, name, first, last), cost(counts, what, name, first)
+    most = 0.0
+    for w, n, size, kind in counts:
+        if (w, n, kind) == (what, name, "full"):
+            found = cost(counts, what, name, size)
+            most = max(most, 100 * abs(found - start - rise * (size - first)) / found)
+    return most
+
+
+def growth(counts):
+    print("### Growth: instructions for one more\n")
+    rows = []
+    for label, name, whats, first, last in GROWTH:
+        found = [slope(counts, what, name, first, last) for what in whats]
+        rows.append([label] + (found + [None])[:3])
+    rows.append(["crediting: a row", slope(counts, "uplink", "rows", 100, 38000), None, None])
+    table(["one more", "library", "msgpack-c (unpack; fixed buffer)", "msgpuck mp_check"], rows)
+    bends = [bend(counts, "read", "ulData", 0, 245), bend(counts, "read", "pairs", 0, 500),
+             bend(counts, "uplink", "rows", 100, 38000)]
+    print("The library's counts between the ends lie off the straight line by at most {:.1f} % (user data), {:.1f} % (pairs) "
+          "and {:.1f} % (rows).\n".format(*bends))
+
+
+def empties(counts):
+    print("Taken off, the round with an empty call of the same shape: " + ", ".join(
+        f"{label} {empty(counts, what)}" for label, what in
+        [("reading", "read"), ("writing", "write"), ("crediting", "uplink"), ("session", "arrive")]) +
+        f"; the stream's 16 frames together {empty(counts, 'stream')}.\n")
+
+
+def main():
+    counts = load(sys.argv[1])
+    with open(sys.argv[2]) as lines:
+        for line in lines:
+            print("- " + line.rstrip())
+    print()
+    for part in (reads, writes, tables, sessions, growth, empties):
+        part(counts)
+
+
+main()
