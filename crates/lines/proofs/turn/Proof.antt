@@ -1,0 +1,50 @@
+use native.Mathlib.Omega.{arith}
+use borrow.Author.Needs.{needs}
+use Rattle.lines.proofs.Turns.{turned}
+use Rattle.lines.proofs.turn.Statement.{statement}
+use Rattle.lines.proofs.turn.Tie as tie
+use Rattle.lines.proofs.turn.Reads as reads
+use Rattle.lines.proofs.turn.Lts as lts
+use Rattle.lines.proofs.line.Reads as line-reads
+use Rattle.lines.proofs.refused.Reads as refused-reads
+use Rattle.reading.proofs.read_framed.Reads as read-framed-reads
+
+-- src/lib.rt:27:9
+read-framed-requires : tie.Need-read-framed-requires
+read-framed-requires c κs = search needs
+
+-- src/lib.rt:31:9
+refused-requires : tie.Need-refused-requires
+refused-requires c κs = search needs
+
+-- src/lib.rt:31:9
+same-length : tie.Need-same-length
+same-length c = search needs
+
+-- src/lib.rt:31:9
+returns : tie.Need-returns
+returns c = search (turned, needs)
+
+-- src/lib.rt:33:9
+line-requires : tie.Need-line-requires
+line-requires c κs = search needs
+
+-- src/lib.rt:24:1
+same-length-2 : tie.Need-same-length-2
+same-length-2 c = search needs
+
+-- src/lib.rt:24:1
+returns-2 : tie.Need-returns-2
+returns-2 c = search (turned, needs)
+
+pub turn-spec : {M : Type 1} → statement M
+turn-spec =
+    tie.close
+    (tie.spec
+    read-framed-requires
+    refused-requires
+    same-length
+    returns
+    line-requires
+    same-length-2
+    returns-2)

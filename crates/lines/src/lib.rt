@@ -1,0 +1,99 @@
+// What the program prints of the frames that arrive, turn by turn.
+mod text;
+
+use text::put_counted;
+use text::put_line;
+use text::put_stop;
+ghost use mathlib.Core.Path.{_≡_};
+ghost use mathlib.Core.Bool.{_&&_, not};
+ghost use mathlib.Core.List.{[], _∷_};
+ghost use lib.Dec.{eqb};
+ghost use Rattle.forms.specs.Put.{Put, put, putParts};
+ghost use Rattle.lines.specs.Lines.{lineFor, endLine, stopLines};
+ghost use Rattle.lines.specs.Turn.{saysRefused, Shows, Turned};
+
+// How many of the bytes at hand are used, how many of the room's are to be printed, and whether they are the last.
+pub struct Took {
+    pub used: usize,
+    pub length: usize,
+    pub ended: bool,
+}
+
+// The bytes at hand from the start of the next frame on, of which no more will come where they are the last, and the frame's number. What is
+// printed has at most 78 bytes; where it has no room it is left out.
+pub fn turn(bytes: &[u8], last: bool, number: u64, room: &mut [u8]) -> Took
+    ensures { λ r. ⌜ Turned (now (bytes .entry)) last number (now (room .entry)) (now (room .exit)) r ⌝ }
+{
+    let u = reading::read_framed(bytes);
+    let used = u.used;
+    let told = u.told;
+    if used == 0 {
+        return refused(room, last, number, bytes.len(), told.refusal);
+    }
+    let length = line(
+        room,
+        number,
+        told.refusal,
+        told.message.command,
+        told.message.op_id,
+    );
+    Took {
+        used: used,
+        length: length,
+        ended: false,
+    }
+}
+
+// No whole frame: more bytes are waited for, or none is left, or the frame is refused.
+fn refused(room: &mut [u8], last: bool, number: u64, len: usize, refusal: u8) -> Took
+    ensures { λ r. ⌜ Shows (saysRefused last number len refusal) (now (room .entry)) (now (room .exit)) r ⌝ }
+{
+    if waits(refusal, last) {
+        return Took {
+            used: 0,
+            length: 0,
+            ended: false,
+        };
+    }
+    let length = if len == 0 {
+        end(room, number)
+    } else {
+        stop(room, number, refusal)
+    };
+    Took {
+        used: 0,
+        length: length,
+        ended: true,
+    }
+}
+
+fn waits(refusal: u8, last: bool) -> bool
+    ensures { λ r. ⌜ r ≡ eqb refusal 1 && not last ⌝ }
+{
+    if refusal == 1 { !last } else { false }
+}
+
+// The line of a whole frame at the start of the room.
+fn line(room: &mut [u8], number: u64, refusal: u8, command: u8, op_id: i64) -> usize
+    ensures { λ r. ⌜ _≡_ {A = Put} (put (now (room .exit)) r) (putParts (lineFor number refusal command «op_id» ∷ []) (put (now (room .entry)) 0)) ⌝ }
+{
+    let mut text = [0u8; 80];
+    let n = put_line(&mut text, number, refusal, command, op_id);
+    forms::put_run(room, 0, &text[..n])
+}
+
+fn end(room: &mut [u8], number: u64) -> usize
+    ensures { λ r. ⌜ _≡_ {A = Put} (put (now (room .exit)) r) (putParts (endLine number ∷ []) (put (now (room .entry)) 0)) ⌝ }
+{
+    let mut text = [0u8; 80];
+    let n = put_counted(&mut text, 0, b"frames ", number);
+    forms::put_run(room, 0, &text[..n])
+}
+
+fn stop(room: &mut [u8], number: u64, refusal: u8) -> usize
+    ensures { λ r. ⌜ _≡_ {A = Put} (put (now (room .exit)) r) (putParts (stopLines number refusal ∷ []) (put (now (room .entry)) 0)) ⌝ }
+{
+    let mut text = [0u8; 80];
+    let n = put_stop(&mut text, number, refusal);
+    forms::put_run(room, 0, &text[..n])
+}
