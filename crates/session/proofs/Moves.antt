@@ -1,16 +1,17 @@
 -- Which steps leave a session's number as it is, for any number that only a start of its own side changes; and a run of steps that each leave
 -- it or set it beyond what it was. By cases on each step, then by induction over the run. Assumes nothing.
-use mathlib.Core.Path.{_≡_, refl, subst}
-use mathlib.Core.Bool.{Bool, true, false, not, _&&_}
+use mathlib.Core.Path.{_≡_, refl, sym, ap, subst, _∙_}
+use mathlib.Core.Bool.{Bool, true, false, _&&_}
 use mathlib.Core.List.{List, [], _∷_}
+use mathlib.Core.Logic.{_⊎_, inl, inr}
 use mathlib.Core.Option.{Option, some, none}
 use Prim.Native.Nat.{ℕ}
 use lib.Dec.{T, eqb}
 use lib.IntN.{ℤ, pos}
 use Rattle.octets.specs.Choice.{either}
-use Rattle.octets.proofs.Ranges.{both-left, both-right}
 use Rattle.names.specs.Names.{bytes, commandOf}
 use Rattle.message.specs.declared.Message.{Message}
+use Rattle.saying.specs.Fits.{fits}
 use Rattle.session.specs.declared.State.{State}
 use Rattle.session.specs.declared.State.the-variants.{Waiting, Connecting, Open}
 use Rattle.session.specs.declared.Entry.{Entry}
@@ -21,7 +22,7 @@ use Rattle.session.specs.Kinds.{Operation}
 use Rattle.session.specs.Happened.{isBegun, isResumed, isOpened}
 use Rattle.session.specs.Arrive.{Outcome, conRspOf, resumes, resumed, begun, opened, withStation, withCentre, completeAt, respondAt, orElse, inWaiting, inConnecting}
 use Rattle.session.specs.Centre.{stored, lostIn, lost}
-use Rattle.session.specs.Run.{Event, reached, after, isFresh, noneFresh, also, idsIn, Ordered}
+use Rattle.session.specs.Run.{Event, reached, after, hasBegun, beginsAnew, Beyond, latest, Ordered}
 
 -- a number of a session that connecting, opening, freeing an entry and losing the connection leave as it is
 pub record Steady (f : Session → ℤ) : Type 0 where
@@ -42,19 +43,24 @@ module _ (f : Session → ℤ) (S : Steady f) (s : Session) where
   lost-keeps = lost-in (s .state)
 
   module _ (m : Message) (h : Host) where
-    waits : (a b c d : Bool) → T d
-        → f (reached s (either a (λ _. either b (λ _. either c (λ _. either d (λ _. Outcome.replies isResumed (resumed s) (conRspOf h true (s .«sn_sc_uuid»))) (λ _. Outcome.replies isBegun (begun h m) (conRspOf h false (h .uuid)))) (λ _. Outcome.refused 16)) (λ _. Outcome.refused 18)) (λ _. Outcome.refused 17))) ≡ f s
-    waits true true true true t = S .resuming s
-    waits true true true false t = absurd t
-    waits true true false d t = refl
-    waits true false c d t = refl
-    waits false b c d t = refl
+    -- a con that resumes or is refused leaves the number; one that does neither begins anew
+    abbrev pub Waited : Outcome → Type 0
+    Waited o = ((hasBegun o ≡ true) × (reached s o ≡ begun h m)) ⊎ ((hasBegun o ≡ false) × (f (reached s o) ≡ f s))
 
-    -- a con that resumes
-    pub waiting-keeps : T (resumes s m) → f (reached s (inWaiting s m h)) ≡ f s
+    waits : (g a b c d : Bool) → Waited (either g (λ _. either a (λ _. either b (λ _. either c (λ _. either d
+        (λ _. Outcome.replies isResumed (resumed s) (conRspOf h true (s .«sn_sc_uuid»))) (λ _. Outcome.replies isBegun (begun h m) (conRspOf h false (h .uuid))))
+        (λ _. Outcome.refused 16)) (λ _. Outcome.refused 18)) (λ _. Outcome.refused 17)) (λ _. Outcome.refused 15))
+    waits true true true true true = inr (refl, S .resuming s)
+    waits true true true true false = inl (refl, refl)
+    waits true true true false d = inr (refl, refl)
+    waits true true false c d = inr (refl, refl)
+    waits true false b c d = inr (refl, refl)
+    waits false a b c d = inr (refl, refl)
+
+    pub waited : Waited (either (fits m) (λ _. inWaiting s m h) (λ _. Outcome.refused 15))
     unfolding inWaiting
-    waiting-keeps t =
-        waits (eqb (m .command) (commandOf (bytes "con"))) (sameId (m .«op_id») (pos 0)) (eqb (m .version .major) 1 && eqb (m .version .minor) 0) (resumes s m) t
+    waited =
+        waits (fits m) (eqb (m .command) (commandOf (bytes "con"))) (sameId (m .«op_id») (pos 0)) (eqb (m .version .major) 1 && eqb (m .version .minor) 0) (resumes s m)
 
     connects : (b : Bool) → f (reached s (either b (λ _. Outcome.silent isOpened (opened s)) (λ _. Outcome.refused 17))) ≡ f s
     connects true = S .opening s
@@ -79,22 +85,30 @@ module _ (f : Session → ℤ) (S : Steady f) (s : Session) where
     ending-keeps none (some o) = responds o (placeOf (m .«op_id») (o .start) (s .centre))
     ending-keeps none none = refl
 
--- a step leaves the number, or sets it beyond what it was
+-- a step leaves the number, or sets it beyond what it was; or a new session begins with 0
 module _ (f : Session → ℤ) (beyond : ℤ → ℤ → Bool) where
   pub data Moves (s t : Session) : Option ℤ → Type 0 where
     kept : f t ≡ f s → Moves s t none
     moved : (z : ℤ) → T (beyond (f s) z) → f t ≡ z → Moves s t (some z)
 
-  joined : (s t : Session) (o : Option ℤ) (zs : List ℤ) → Moves s t o → Ordered beyond (f t) zs → Ordered beyond (f s) (also o zs)
-  joined s t none zs (kept e) r = subst (λ (z : ℤ). Ordered beyond z zs) e r
-  joined s t (some z) zs (moved y b e) r = (b, subst (λ (x : ℤ). Ordered beyond x zs) e r)
+  pub data Goes (s t : Session) : Bool → Option ℤ → Type 0 where
+    anew : f t ≡ pos 0 → Goes s t true none
+    on : (o : Option ℤ) → Moves s t o → Goes s t false o
 
-  -- along a run in which no new session begins
-  module _ (id : Session → Event → Option ℤ) (step : (s : Session) (e : Event) → T (not (isFresh s e)) → Moves s (after s e) (id s e)) where
-    pub ordered : (s : Session) (es : List Event) → T (noneFresh s es) → Ordered beyond (f s) (idsIn id s es)
-    unfolding noneFresh idsIn
-    ordered s [] t = tt
-    ordered s (e ∷ es) t =
-        joined s (after s e) (id s e) (idsIn id (after s e) es)
-        (step s e (both-left (not (isFresh s e)) (noneFresh (after s e) es) t))
-        (ordered (after s e) es (both-right (not (isFresh s e)) (noneFresh (after s e) es) t))
+  -- by what a con does while waiting
+  pub from-waited : (S : Steady f) (s : Session) (m : Message) (h : Host) (o : Outcome) → f (begun h m) ≡ pos 0 → Waited f S s m h o → Goes s (reached s o) (hasBegun o) none
+  from-waited S s m h o z (inl p) = subst (λ (b : Bool). Goes s (reached s o) b none) (sym (p .0)) (anew (ap f (p .1) ∙ z))
+  from-waited S s m h o z (inr p) = subst (λ (b : Bool). Goes s (reached s o) b none) (sym (p .0)) (on none (kept (p .1)))
+
+  -- along any run
+  module _ (id : Session → Event → Option ℤ) (step : (s : Session) (e : Event) → Goes s (after s e) (beginsAnew s e) (id s e)) where
+    joined : (s t : Session) (b : Bool) (o : Option ℤ) (es : List Event) → Goes s t b o → Ordered beyond id (f t) t es
+        → Beyond beyond (f s) o × Ordered beyond id (either b (λ _. pos 0) (λ _. latest (f s) o)) t es
+    joined s t true none es (anew e) r = (tt, subst (λ (z : ℤ). Ordered beyond id z t es) e r)
+    joined s t false none es (on o (kept e)) r = (tt, subst (λ (z : ℤ). Ordered beyond id z t es) e r)
+    joined s t false (some z) es (on o (moved y b e)) r = (b, subst (λ (x : ℤ). Ordered beyond id x t es) e r)
+
+    pub ordered : (s : Session) (es : List Event) → Ordered beyond id (f s) s es
+    unfolding Ordered
+    ordered s [] = tt
+    ordered s (e ∷ es) = joined s (after s e) (beginsAnew s e) (id s e) es (step s e) (ordered (after s e) es)

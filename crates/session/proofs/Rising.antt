@@ -1,8 +1,8 @@
--- The IDs of stations' starts rise, and the centre's fall, through any run in which no new session begins, resumes among its steps. A start is
--- accepted only above the highest ID known, which then is its ID; the centre issues the ID one below its lowest; nothing else changes the two.
--- Assumes nothing.
+-- The IDs of stations' starts rise, and the centre's fall, through any run, resumes and refused steps among it; only a new session begins them
+-- anew. A start is accepted only above the highest ID known, which then is its ID; the centre issues the ID one below its lowest; nothing else
+-- changes the two. Assumes nothing.
 use mathlib.Core.Path.{_≡_, refl, subst}
-use mathlib.Core.Bool.{Bool, true, false, not, _&&_}
+use mathlib.Core.Bool.{Bool, true, false, _&&_}
 use mathlib.Core.List.{List}
 use mathlib.Core.Option.{Option, some, none}
 use Prim.Native.Nat.{ℕ, suc}
@@ -22,9 +22,10 @@ use Rattle.session.specs.Kinds.{Operation, stationStarts, centreStarts, 
 use Rattle.session.specs.Arrive.{Outcome, below, highestOf, lowestOf, resumes, withCentre, startAt, orElse, inOpen, whenOpen, inState, arrives}
 use Rattle.session.specs.Happened.{isIssued}
 use Rattle.session.specs.Centre.{oneBelow, lastId, underId, beginAt, begins, ifOpen, centreBegins}
-use Rattle.session.specs.Run.{Event, reached, after, ifDone, whileOpen, ifStart, acceptedIn, issuedIn, isWaiting, isFresh, noneFresh, stationIds, centreIds, Rising, Falling}
-use Rattle.session.proofs.Moves.{Steady, Moves, lost-keeps, waiting-keeps, connecting-keeps, ending-keeps, ordered}
+use Rattle.session.specs.Run.{Event, reached, after, ifDone, whileOpen, ifStart, acceptedIn, issuedIn, isWaiting, hasBegun, beginsAnew, Rising, Falling}
+use Rattle.session.proofs.Moves.{Steady, Moves, Goes, lost-keeps, waited, connecting-keeps, ending-keeps, from-waited, ordered}
 use Rattle.session.proofs.Moves.Moves.{kept, moved}
+use Rattle.session.proofs.Moves.Goes.{anew, on}
 
 highest-steady : Steady highestOf
 highest-steady = record { resuming = λ s. refl; opening = λ s. refl; storing = λ s. refl; completing = λ s t. refl; responding = λ s t. refl }
@@ -58,31 +59,34 @@ module _ (s : Session) (m : Message) (h : Host) where
       rw e (kept (ending-keeps highestOf highest-steady s m h (operationBy (λ o. o .cmp) stationStarts (m .command)) (operationBy (λ o. o .rsp) centreStarts (m .command))))
   open-raises (some o) e = rw e (start-raises o (below (highestOf s) (m .«op_id»)) refl)
 
-  -- what is not fresh resumes
-  resuming : (b : Bool) → T (not (not b)) → T b
-  resuming true t = tt
-  resuming false t = t
-
-  state-raises : (x : State) → T (not (isWaiting x && not (resumes s m)))
-      → Raises s (reached s (inState x s m h)) (whileOpen x (ifStart (operationBy (λ o. o .start) stationStarts (m .command)) (ifDone (inState x s m h) (m .«op_id»))))
-  state-raises Waiting t = kept (waiting-keeps highestOf highest-steady s m h (resuming (resumes s m) t))
-  state-raises Connecting t = kept (connecting-keeps highestOf highest-steady s m h)
-  state-raises Open t = open-raises (operationBy (λ o. o .start) stationStarts (m .command)) refl
-
   unfit : (x : State) (o : Option Operation) → whileOpen x (ifStart o none) ≡ none
   unfit Waiting o = refl
   unfit Connecting o = refl
   unfit Open none = refl
   unfit Open (some o) = refl
 
-  arrival-raises : T (not (isFresh s (Event.arrival m h))) → Raises s (after s (Event.arrival m h)) (acceptedIn s (Event.arrival m h))
+  abbrev judged : State → Bool → Outcome
+  judged x b = either b (λ _. inState x s m h) (λ _. Outcome.refused 15)
+
+  abbrev accepted : State → Bool → Option ℤ
+  accepted x b = whileOpen x (ifStart (operationBy (λ o. o .start) stationStarts (m .command)) (ifDone (judged x b) (m .«op_id»)))
+
+  connecting-raises : (b : Bool) → Raises s (reached s (judged Connecting b)) none
+  connecting-raises true = kept (connecting-keeps highestOf highest-steady s m h)
+  connecting-raises false = kept refl
+
+  opened-raises : (b : Bool) → Raises s (reached s (judged Open b)) (accepted Open b)
+  opened-raises true = open-raises (operationBy (λ o. o .start) stationStarts (m .command)) refl
+  opened-raises false = rw (unfit Open (operationBy (λ o. o .start) stationStarts (m .command))) (kept refl)
+
+  state-raises : (x : State) → Goes highestOf below s (reached s (judged x (fits m))) (isWaiting x && hasBegun (judged x (fits m))) (accepted x (fits m))
+  state-raises Waiting = from-waited highestOf below highest-steady s m h (judged Waiting (fits m)) refl (waited highestOf highest-steady s m h)
+  state-raises Connecting = on none (connecting-raises (fits m))
+  state-raises Open = on (accepted Open (fits m)) (opened-raises (fits m))
+
+  arrival-raises : Goes highestOf below s (after s (Event.arrival m h)) (beginsAnew s (Event.arrival m h)) (acceptedIn s (Event.arrival m h))
   unfolding arrives
-  arrival-raises t = go (fits m)
-    where
-      go : (b : Bool) → Raises s (reached s (either b (λ _. inState (s .state) s m h) (λ _. Outcome.refused 15)))
-          (whileOpen (s .state) (ifStart (operationBy (λ o. o .start) stationStarts (m .command)) (ifDone (either b (λ _. inState (s .state) s m h) (λ _. Outcome.refused 15)) (m .«op_id»))))
-      go true = state-raises (s .state) t
-      go false = rw (unfit (s .state) (operationBy (λ o. o .start) stationStarts (m .command))) (kept refl)
+  arrival-raises = state-raises (s .state)
 
   -- an arrival leaves the centre's lowest
   place-keeps : (o : Operation) (p : Option ℕ) → lowestOf (reached s (startAt s h o (m .«op_id») p)) ≡ lowestOf s
@@ -98,18 +102,22 @@ module _ (s : Session) (m : Message) (h : Host) where
   open-keeps none e = rw e (ending-keeps lowestOf lowest-steady s m h (operationBy (λ o. o .cmp) stationStarts (m .command)) (operationBy (λ o. o .rsp) centreStarts (m .command)))
   open-keeps (some o) e = rw e (start-keeps o (below (highestOf s) (m .«op_id»)))
 
-  state-keeps : (x : State) → T (not (isWaiting x && not (resumes s m))) → lowestOf (reached s (inState x s m h)) ≡ lowestOf s
-  state-keeps Waiting t = waiting-keeps lowestOf lowest-steady s m h (resuming (resumes s m) t)
-  state-keeps Connecting t = connecting-keeps lowestOf lowest-steady s m h
-  state-keeps Open t = open-keeps (operationBy (λ o. o .start) stationStarts (m .command)) refl
+  connecting-lowers : (b : Bool) → lowestOf (reached s (judged Connecting b)) ≡ lowestOf s
+  connecting-lowers true = connecting-keeps lowestOf lowest-steady s m h
+  connecting-lowers false = refl
 
-  arrival-keeps : T (not (isFresh s (Event.arrival m h))) → lowestOf (after s (Event.arrival m h)) ≡ lowestOf s
+  opened-keeps : (b : Bool) → lowestOf (reached s (judged Open b)) ≡ lowestOf s
+  opened-keeps true = open-keeps (operationBy (λ o. o .start) stationStarts (m .command)) refl
+  opened-keeps false = refl
+
+  state-keeps : (x : State) → Goes lowestOf (λ a z. below z a) s (reached s (judged x (fits m))) (isWaiting x && hasBegun (judged x (fits m))) none
+  state-keeps Waiting = from-waited lowestOf (λ a z. below z a) lowest-steady s m h (judged Waiting (fits m)) refl (waited lowestOf lowest-steady s m h)
+  state-keeps Connecting = on none (kept (connecting-lowers (fits m)))
+  state-keeps Open = on none (kept (opened-keeps (fits m)))
+
+  arrival-keeps : Goes lowestOf (λ a z. below z a) s (after s (Event.arrival m h)) (beginsAnew s (Event.arrival m h)) none
   unfolding arrives
-  arrival-keeps t = go (fits m)
-    where
-      go : (b : Bool) → lowestOf (reached s (either b (λ _. inState (s .state) s m h) (λ _. Outcome.refused 15))) ≡ lowestOf s
-      go true = state-keeps (s .state) t
-      go false = refl
+  arrival-keeps = state-keeps (s .state)
 
 -- one below is below, and below zero
 one-below : (z : ℤ) → T (below (oneBelow z) z)
@@ -163,22 +171,22 @@ module _ (s : Session) (m : Message) where
   centre-keeps Open none = refl
   centre-keeps Open (some o) = begun-keeps o (freePlace (s .centre)) (sameId (lowestOf s) lastId)
 
-step-raises : (s : Session) (e : Event) → T (not (isFresh s e)) → Raises s (after s e) (acceptedIn s e)
+step-raises : (s : Session) (e : Event) → Goes highestOf below s (after s e) (beginsAnew s e) (acceptedIn s e)
 unfolding centreBegins
-step-raises s (Event.arrival m h) t = arrival-raises s m h t
-step-raises s (Event.beginning m) t = kept (centre-keeps s m (s .state) (operationBy (λ o. o .start) centreStarts (m .command)))
-step-raises s Event.loss t = kept (lost-keeps highestOf highest-steady s)
+step-raises s (Event.arrival m h) = arrival-raises s m h
+step-raises s (Event.beginning m) = on none (kept (centre-keeps s m (s .state) (operationBy (λ o. o .start) centreStarts (m .command))))
+step-raises s Event.loss = on none (kept (lost-keeps highestOf highest-steady s))
 
-step-lowers : (s : Session) (e : Event) → T (not (isFresh s e)) → Lowers s (after s e) (issuedIn s e)
+step-lowers : (s : Session) (e : Event) → Goes lowestOf (λ a z. below z a) s (after s e) (beginsAnew s e) (issuedIn s e)
 unfolding centreBegins
-step-lowers s (Event.arrival m h) t = kept (arrival-keeps s m h t)
-step-lowers s (Event.beginning m) t = centre-lowers s m (s .state) (operationBy (λ o. o .start) centreStarts (m .command))
-step-lowers s Event.loss t = kept (lost-keeps lowestOf lowest-steady s)
+step-lowers s (Event.arrival m h) = arrival-keeps s m h
+step-lowers s (Event.beginning m) = on (issuedIn s (Event.beginning m)) (centre-lowers s m (s .state) (operationBy (λ o. o .start) centreStarts (m .command)))
+step-lowers s Event.loss = on none (kept (lost-keeps lowestOf lowest-steady s))
 
--- the stations' IDs rise, from any session on
-pub ids-rise : (s : Session) (es : List Event) → T (noneFresh s es) → Rising (highestOf s) (stationIds s es)
-ids-rise s es t = ordered highestOf below acceptedIn step-raises s es t
+-- the stations' IDs rise, from any session on, the empty one among them
+pub ids-rise : (s : Session) (es : List Event) → Rising s es
+ids-rise s es = ordered highestOf below acceptedIn step-raises s es
 
 -- the centre's fall
-pub ids-fall : (s : Session) (es : List Event) → T (noneFresh s es) → Falling (lowestOf s) (centreIds s es)
-ids-fall s es t = ordered lowestOf (λ a z. below z a) issuedIn step-lowers s es t
+pub ids-fall : (s : Session) (es : List Event) → Falling s es
+ids-fall s es = ordered lowestOf (λ a z. below z a) issuedIn step-lowers s es

@@ -1,10 +1,9 @@
 -- Runs of a session: records that arrive, operations that the centre begins, lost connections, refused ones among them.
-use Prim.Native.Nat.{ℕ}
-use mathlib.Core.Bool.{Bool, true, false, not, _&&_}
+use mathlib.Core.Bool.{Bool, true, false, _&&_}
 use mathlib.Core.List.{List, [], _∷_}
 use mathlib.Core.Option.{Option, some, none}
-use lib.IntN.{ℤ}
-use lib.Dec.{T}
+use lib.IntN.{ℤ, pos}
+use lib.Dec.{T, eqb}
 use Rattle.octets.specs.Choice.{either}
 use Rattle.message.specs.declared.Message.{Message}
 use Rattle.session.specs.declared.State.{State}
@@ -12,7 +11,8 @@ use Rattle.session.specs.declared.State.the-variants.{Waiting, Connectin
 use Rattle.session.specs.declared.Session.{Session}
 use Rattle.session.specs.declared.Host.{Host}
 use Rattle.session.specs.Kinds.{Operation, stationStarts, operationBy}
-use Rattle.session.specs.Arrive.{Outcome, below, lowestOf, resumes, arrives}
+use Rattle.session.specs.Happened.{isBegun}
+use Rattle.session.specs.Arrive.{Outcome, below, highestOf, lowestOf, arrives}
 use Rattle.session.specs.Centre.{centreBegins, oneBelow, lost}
 
 pub data Event : Type 0 where
@@ -58,43 +58,40 @@ issuedIn s (Event.arrival m h) = none
 issuedIn s (Event.beginning m) = ifDone (centreBegins s m) (oneBelow (lowestOf s))
 issuedIn s Event.loss = none
 
--- a con that does not resume begins a new session
+-- a new session begins where a con is taken that does not resume
 abbrev pub isWaiting : State → Bool
 isWaiting Waiting = true
 isWaiting Connecting = false
 isWaiting Open = false
 
-abbrev pub isFresh : Session → Event → Bool
-isFresh s (Event.arrival m h) = isWaiting (s .state) && not (resumes s m)
-isFresh s (Event.beginning m) = false
-isFresh s Event.loss = false
+abbrev pub hasBegun : Outcome → Bool
+hasBegun (Outcome.refused n) = false
+hasBegun (Outcome.silent w t) = false
+hasBegun (Outcome.replies w t m) = eqb w isBegun
 
-unfoldable pub noneFresh : Session → List Event → Bool
-noneFresh s [] = true
-noneFresh s (e ∷ es) = not (isFresh s e) && noneFresh (after s e) es
+abbrev pub beginsAnew : Session → Event → Bool
+beginsAnew s (Event.arrival m h) = isWaiting (s .state) && hasBegun (arrives s m h)
+beginsAnew s (Event.beginning m) = false
+beginsAnew s Event.loss = false
 
-abbrev pub also : Option ℤ → List ℤ → List ℤ
-also none zs = zs
-also (some z) zs = z ∷ zs
+-- an ID, if there is one, is beyond b; and it is the bound from then on
+abbrev pub Beyond : (ℤ → ℤ → Bool) → ℤ → Option ℤ → Type 0
+Beyond beyond b none = Unit {0}
+Beyond beyond b (some z) = T (beyond b z)
 
--- the IDs of a run's steps, in their order
-unfoldable pub idsIn : (Session → Event → Option ℤ) → Session → List Event → List ℤ
-idsIn f s [] = []
-idsIn f s (e ∷ es) = also (f s e) (idsIn f (after s e) es)
+abbrev pub latest : ℤ → Option ℤ → ℤ
+latest b none = b
+latest b (some z) = z
 
-abbrev pub stationIds : Session → List Event → List ℤ
-stationIds s es = idsIn acceptedIn s es
+-- the IDs of a run's steps: each beyond the one before it in its session, the first beyond b; a new session begins from 0 again
+unfoldable pub Ordered : (ℤ → ℤ → Bool) → (Session → Event → Option ℤ) → ℤ → Session → List Event → Type 0
+Ordered beyond id b s [] = Unit {0}
+Ordered beyond id b s (e ∷ es) =
+    Beyond beyond b (id s e) × Ordered beyond id (either (beginsAnew s e) (λ _. pos 0) (λ _. latest b (id s e))) (after s e) es
 
-abbrev pub centreIds : Session → List Event → List ℤ
-centreIds s es = idsIn issuedIn s es
+-- the stations' IDs that are accepted, and the centre's that are issued
+abbrev pub Rising : Session → List Event → Type 0
+Rising s es = Ordered below acceptedIn (highestOf s) s es
 
--- each beyond the one before it, the first beyond b
-abbrev pub Ordered : (ℤ → ℤ → Bool) → ℤ → List ℤ → Type 0
-Ordered beyond b [] = Unit {0}
-Ordered beyond b (z ∷ zs) = T (beyond b z) × Ordered beyond z zs
-
-abbrev pub Rising : ℤ → List ℤ → Type 0
-Rising b zs = Ordered below b zs
-
-abbrev pub Falling : ℤ → List ℤ → Type 0
-Falling b zs = Ordered (λ a z. below z a) b zs
+abbrev pub Falling : Session → List Event → Type 0
+Falling s es = Ordered (λ a z. below z a) issuedIn (lowestOf s) s es
