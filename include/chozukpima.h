@@ -206,6 +206,10 @@ CHZ_SAME(offsetof(chz_session, state), 344);
  * Refusals 1 (wait for more bytes), 2, 3. */
 uint64_t chz_frame(const uint8_t *bytes, size_t bytes_len);
 
+/* The form of a payload alone, whatever its command: the value is the count of elements. Refusals 3 to 10; for 4 to 10 the value
+ * is the byte place. */
+uint64_t chz_form(const uint8_t *payload, size_t payload_len);
+
 /* A payload into a message: the value is the count of elements. Refusals 3 to 15; for 4 to 10 the value is the byte place.
  * A message buffer that is not sizeof(chz_message) long is 15 before all others. */
 uint64_t chz_read(const uint8_t *payload, size_t payload_len, uint8_t *message, size_t message_len);

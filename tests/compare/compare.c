@@ -34,6 +34,7 @@ static const struct call calls[] = {
     { "chz_enrol", { COLUMNS, { "meter_sh_addr", 'n' }, { "counter", 'n' } } },
     { "chz_withdraw", { COLUMNS } },
     { "chz_uplink", { COLUMNS, { "counter", 'n' }, { "station", 'n' } } },
+    { "chz_form", { { "payload", 'b' } } },
 };
 enum { CALLS = sizeof calls / sizeof *calls };
 
@@ -130,7 +131,8 @@ static uint64_t make_call(void)
     case 6: return chz_find(TABLE);
     case 7: return chz_enrol(TABLE, (uint16_t)N(6), (uint32_t)N(7));
     case 8: return chz_withdraw(TABLE);
-    default: return chz_uplink(TABLE, (uint32_t)N(6), (uint8_t)N(7));
+    case 9: return chz_uplink(TABLE, (uint32_t)N(6), (uint8_t)N(7));
+    default: return chz_form(BYTES(0));
     }
 }
 

@@ -27,6 +27,7 @@ enum Call {
     Enrol,
     Withdraw,
     Uplink,
+    Form,
 }
 
 struct Case(Vec<u8>);
@@ -97,7 +98,9 @@ impl Stream {
         self.case(Case::new(Call::Frame).buffer(bytes, bytes), calls::frame(bytes))
     }
 
+    /// Each payload's form is judged alone, too.
     pub fn read(&mut self, payload: &[u8], message: &[u8]) -> u64 {
+        self.case(Case::new(Call::Form).buffer(payload, payload), calls::form(payload));
         let mut after = message.to_vec();
         let answer = calls::read(payload, &mut after);
         self.messages += 1;

@@ -2,6 +2,8 @@
 use mathlib.Core.Path.{_≡_, sym, ap, _∙_}
 use Prim.Native.Nat.{ℕ, _+_, _*_, _≤_, _<_}
 use borrow.Author.Tests.{le-leb, lt-leb}
+use Rattle.element.specs.declared.Walked.{Walked}
+use Rattle.element.specs.declared.Walked.the-variants as walked
 use Rattle.frame.specs.declared.Framed.{Framed}
 use Rattle.frame.specs.declared.Framed.the-variants.{Whole, Refused}
 use Rattle.meters.specs.declared.Found.{Found}
@@ -10,7 +12,7 @@ use Rattle.meters.specs.declared.Credit.{Credit}
 use Rattle.meters.specs.declared.Credit.the-variants as credit
 use Rattle.meters.specs.Answers.{refusalOf, rowOf, creditRefusalOf, hearersOf}
 use Rattle.meters.specs.Columns.{Columns, Done, toldPlace, toldCredit}
-use Rattle.chozukpima.specs.Packed.{most, shown, packed, frameAnswer, creditKind, Told, told, placed, credited}
+use Rattle.chozukpima.specs.Packed.{most, shown, packed, frameAnswer, formAnswer, creditKind, Told, told, placed, credited}
 
 pub shown-whole : (v : ℕ) → v ≤ most → v ≡ shown v
 unfolding shown
@@ -30,6 +32,13 @@ module _ (f : Framed) (r k : ℕ) where
 
   pub frame-refused : f ≡ Refused k → r ≡ packed k 0 0 → r ≡ frameAnswer f
   frame-refused e p = p ∙ ap frameAnswer (sym e)
+
+module _ (w : Walked) (r k : ℕ) where
+  pub form-whole : w ≡ walked.Whole k → r ≡ packed 0 0 k → r ≡ formAnswer w
+  form-whole e p = p ∙ ap formAnswer (sym e)
+
+  pub form-refused : (p : ℕ) → w ≡ walked.Refused k p → r ≡ packed k 0 p → r ≡ formAnswer w
+  form-refused p e q = q ∙ ap formAnswer (sym e)
 
 module _ (f : Found) (r k : ℕ) where
   pub place-found : f ≡ found.At k → r ≡ packed 0 0 k → r ≡ packed (refusalOf f) 0 (rowOf f)
@@ -55,4 +64,4 @@ found-told f r c d e p = ap (λ x. told x c) e ∙ ap placed p
 pub credit-told : (f : Credit) (r : ℕ) (c : Columns) (d : Done Credit) → r ≡ packed (creditRefusalOf f) (creditKind f) (hearersOf f) → toldCredit f c ≡ d → _≡_ {A = Told} (told r c) (credited d)
 credit-told f r c d e p = ap (λ x. told x c) e ∙ ap credited p
 
-pub ruleset answers = (shown-whole, shown-most, packed-as, frame-whole, frame-refused, place-found, place-refused, credit-new, credit-copy, credit-refused, found-told, credit-told)
+pub ruleset answers = (shown-whole, shown-most, packed-as, frame-whole, frame-refused, form-whole, form-refused, place-found, place-refused, credit-new, credit-copy, credit-refused, found-told, credit-told)

@@ -1,4 +1,4 @@
-//! The header's ten calls on bytes and columns: the answer, and the lent bytes afterwards.
+//! The header's calls on bytes and columns: the answer, and the lent bytes afterwards.
 //! "Lent memory and session keep what they held" where a call is refused.
 
 use super::commands::COMMANDS;
@@ -20,6 +20,10 @@ fn answered(result: Result<u64, Refusal>) -> u64 {
 
 pub fn frame(bytes: &[u8]) -> u64 {
     answered(super::frame::frame(bytes).map(|used| answer(0, used)))
+}
+
+pub fn form(payload: &[u8]) -> u64 {
+    answered(super::elements::walk(payload).map(|(_, count)| answer(0, count)))
 }
 
 pub fn read(payload: &[u8], message: &mut [u8]) -> u64 {
