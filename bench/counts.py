@@ -15,6 +15,7 @@ EMPTY = {
     "read": ("read", "ping", 0),
     "unpack": ("read", "ping", 0),
     "check": ("read", "ping", 0),
+    "form": ("read", "ping", 0),
     "write": ("write", "detRsp", 0),
     "sbuffer": ("write", "detRsp", 0),
     "fixed": ("write", "detRsp", 0),

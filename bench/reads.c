@@ -1,4 +1,4 @@
-/* A payload read whole: the library, msgpack-c's unpacking and msgpuck's check, all called through one shape. */
+/* A payload's form judged, and a payload read whole: the library, msgpack-c's unpacking and msgpuck's check, all called through one shape. */
 #include "bench.h"
 
 #include <string.h>
@@ -10,6 +10,12 @@ static _Alignas(64) uint8_t payload[PAYLOAD_MOST];
 static size_t payload_len;
 static _Alignas(64) chz_message image;
 static call_in_out *volatile call;
+
+static uint64_t form(const uint8_t *in, size_t in_len, uint8_t *out, size_t out_len)
+{
+    (void)out, (void)out_len;
+    return chz_form(in, in_len);
+}
 
 static uint64_t unpack(const uint8_t *in, size_t in_len, uint8_t *out, size_t out_len)
 {
@@ -46,6 +52,7 @@ static void agree(const char *name, unsigned size)
     need(chz_refused(answer) == CHZ_DONE, "chz_read refuses the payload");
     need(!memcmp(&image, &wanted, sizeof image), "chz_read reads another message");
     need(strcmp(name, "pairs") || size != PAIRS_MOST || payload_len == PAYLOAD_MOST, "500 pairs aren't 4,096 bytes");
+    need(chz_form(payload, payload_len) == answer, "chz_form answers otherwise");
     need(unpack(payload, payload_len, NULL, 0) == 1, "msgpack-c refuses the payload");
 #ifdef HAVE_MSGPUCK
     need(check(payload, payload_len, NULL, 0) == 1, "msgpuck refuses the payload");
@@ -63,6 +70,7 @@ static void rounds_size(unsigned long rounds)
 bench_rounds *reads_case(const char *what, const char *name, unsigned size, int empty)
 {
     if (!strcmp(what, "read")) call = chz_read;
+    else if (!strcmp(what, "form")) call = form;
     else if (!strcmp(what, "unpack")) call = unpack;
 #ifdef HAVE_MSGPUCK
     else if (!strcmp(what, "check")) call = check;

@@ -45,9 +45,9 @@ def reads(counts):
     rows = []
     for label, name, size in READS:
         length, elements = counts["size", name, size, "full"]
-        costs = [cost(counts, what, name, size) for what in ("read", "unpack", "check")]
+        costs = [cost(counts, what, name, size) for what in ("form", "check", "read", "unpack")]
         rows.append([label, length, elements] + costs)
-    table(["payload", "bytes", "elements", "chz_read", "msgpack-c unpack", "msgpuck mp_check"], rows)
+    table(["payload", "bytes", "elements", "chz_form", "msgpuck mp_check", "chz_read", "msgpack-c unpack"], rows)
 
 
 def writes(counts):
