@@ -115,6 +115,19 @@ static void each_payload(void)
     }
 }
 
+/* The form alone: the same answer where a payload is read or its form is refused. */
+static void each_form(void)
+{
+    static struct lent payload;
+    uint8_t spelled[LENT_MOST];
+    for (size_t i = 0; i < COUNT(cases); i++) {
+        if (cases[i].refused > CHZ_LEFT_OVER) continue;
+        start(cases[i].name);
+        lend(&payload, spelled, spell(cases[i].payload, spelled));
+        JUDGE(chz_form(payload.at, payload.len), ANSWER(cases[i].refused, 0, cases[i].value), &payload);
+    }
+}
+
 /* A message buffer of a wrong length is 15 before all others. */
 static void each_wrong_length(void)
 {
@@ -132,5 +145,6 @@ static void each_wrong_length(void)
 void reads(void)
 {
     each_payload();
+    each_form();
     each_wrong_length();
 }
