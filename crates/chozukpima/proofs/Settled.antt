@@ -1,14 +1,17 @@
 -- The statements of the calls settle the answer and every lent byte: each is an equation, or (reading) holds of one answer alone, since what a
--- payload means is settled and `read` answers it. Assumes nothing.
-use mathlib.Core.Path.{_≡_, sym, _∙_}
+-- payload means is one thing, and every payload means something. Assumes nothing.
+use mathlib.Core.Path.{_≡_, refl, sym, _∙_}
+use mathlib.Core.Bool.{Bool, true, false}
 use mathlib.Core.List.{List}
 use Prim.Native.Nat.{ℕ}
+use lib.Dec.{eqb}
 use lib.ListN.{length}
-use Rattle.message.specs.declared.Told.{Told}
-use Rattle.message.specs.Meant.{Meant}
+use borrow.Author.Tests.{eqb-true, eqb-false}
+use Rattle.message.specs.Cells.{toldAt}
+use Rattle.message.proofs.Read.{told-meant}
 use Rattle.images.specs.Record.{recordSize}
 use Rattle.chozukpima.specs.Packed.{Told as Table}
-use Rattle.chozukpima.specs.Messages.{ReadInto, writeAnswer, roomWritten}
+use Rattle.chozukpima.specs.Messages.{toldAnswer, imageAfter, ReadInto, writeAnswer, roomWritten}
 use Rattle.chozukpima.specs.Sessions.{Called, lostAnswer, lostSession}
 
 -- a table call's answer and columns, a session call's answer, session and room, are those of the definition
@@ -25,10 +28,17 @@ module _ (d room : List ℕ) where
   pub lost-settled : (r q : ℕ) (a b : List ℕ) → (r ≡ lostAnswer d) × (a ≡ lostSession d) → (q ≡ lostAnswer d) × (b ≡ lostSession d) → (r ≡ q) × (a ≡ b)
   lost-settled r q a b e f = (e .0 ∙ sym (f .0), e .1 ∙ sym (f .1))
 
--- for an image of its length there is what the payload means, and for any other there is 15
+-- an image of its length is answered by what the payload means, and every payload means something; any other is 15
 module _ (p d : List ℕ) (r q : ℕ) (a b : List ℕ) (x : ReadInto p d r a) (y : ReadInto p d q b) where
-  pub read-settled : length d ≡ recordSize → (t : Told) → Meant p t → (r ≡ q) × (a ≡ b)
-  read-settled l t m = (x .meant l t m .0 ∙ sym (y .meant l t m .0), x .meant l t m .1 ∙ sym (y .meant l t m .1))
+  by-length : (w : Bool) → eqb (length d) recordSize ≡ w → (r ≡ q) × (a ≡ b)
+  by-length true e =
+      let l : length d ≡ recordSize = eqb-true (length d) recordSize e in
+      let f : (r ≡ toldAnswer (toldAt p)) × (a ≡ imageAfter (toldAt p) d) = x .meant l (toldAt p) (told-meant p) in
+      let g : (q ≡ toldAnswer (toldAt p)) × (b ≡ imageAfter (toldAt p) d) = y .meant l (toldAt p) (told-meant p) in
+      (f .0 ∙ sym (g .0), f .1 ∙ sym (g .1))
+  by-length false e =
+      let h : length d ≡ recordSize → ⊥ = eqb-false (length d) recordSize e in
+      (x .long h .0 ∙ sym (y .long h .0), x .long h .1 ∙ sym (y .long h .1))
 
-  pub read-settled-short : (length d ≡ recordSize → ⊥) → (r ≡ q) × (a ≡ b)
-  read-settled-short h = (x .long h .0 ∙ sym (y .long h .0), x .long h .1 ∙ sym (y .long h .1))
+  pub read-settled : (r ≡ q) × (a ≡ b)
+  read-settled = by-length (eqb (length d) recordSize) refl
