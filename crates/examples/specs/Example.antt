@@ -5,13 +5,10 @@ use Prim.Native.Nat.{ℕ}
 use lib.Ieee.{Float, binary64, toBits}
 use lib.ListN.{length, replicate}
 use Rattle.octets.specs.Bytes.{bigBytes}
-use Rattle.element.specs.declared.Walked.{Walked}
-use Rattle.element.specs.Form.{walkOf}
 use Rattle.element.specs.At.{leafAt}
-use Rattle.element.specs.Tree.{Pairs, bytesOfPairs}
-use Rattle.element.specs.Meaning.{meaningOfPairs}
 use Rattle.message.specs.declared.Message.{Message}
-use Rattle.message.specs.Reading.{Reading, readingOf}
+use Rattle.message.specs.declared.Told.{Told}
+use Rattle.message.specs.Meant.{Meant}
 use Rattle.number.specs.declared.Number.the-variants.{Real}
 use Rattle.number.specs.Number.{numberOf}
 use Rattle.saying.specs.Written.{payloadFor, frameFor}
@@ -21,10 +18,8 @@ use Rattle.writing.specs.Write.{writtenOf}
 pub data Example : Type 0 where
   -- a payload has so many bytes
   size : List ℕ → ℕ → Example
-  -- a payload's form: whole with its elements counted, or a refusal and its place
-  form : List ℕ → Walked → Example
-  -- the bytes of a message's outer map of pairs, and what it is read as
-  reading : List ℕ → ℕ → Pairs → Reading → Example
+  -- the whole answer to a payload: refusal, place, count of elements and record
+  answer : List ℕ → Told → Example
   -- an element is that real, which is kept as those eight bytes
   real : List ℕ → Float → List ℕ → Example
   -- a record takes so many bytes, and so many with its frame
@@ -34,8 +29,7 @@ pub data Example : Type 0 where
 
 abbrev pub Holds : Example → Type 0
 Holds (size s n) = length s ≡ n
-Holds (form s w) = walkOf s ≡ w
-Holds (reading s lead ps r) = (lead ∷ bytesOfPairs ps ≡ s) × (readingOf (meaningOfPairs ps) ≡ r)
+Holds (answer s t) = Meant s t
 Holds (real s x kept) = (numberOf (leafAt s 0) ≡ Real x) × (bigBytes 8 (toBits binary64 x) ≡ kept)
 Holds (takes m n framed) = (length (payloadFor m) ≡ n) × (length (frameFor m) ≡ framed)
 Holds (writing m n w) = writtenOf m (replicate n 0) ≡ w

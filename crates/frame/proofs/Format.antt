@@ -3,7 +3,7 @@
 use mathlib.Core.Path.{_≡_, refl, sym, ap, ap₂, _∙_}
 use mathlib.Core.Bool.{Bool, true, false, _||_}
 use mathlib.Core.List.{List, [], _∷_, _++_}
-use Prim.Native.Nat.{ℕ, _+_, _-_, _≤_}
+use Prim.Native.Nat.{ℕ, _+_, _-_, _≤_, _<_}
 use native.Mathlib.Omega.{arith}
 use lib.Dec.{ltb, eqb}
 use lib.ListN.{length, take, drop, length-append, length-drop, take-append-drop}
@@ -28,6 +28,19 @@ tests-of true false true d m n e = refused-whole 3 n e
 tests-of true false false true m n e = refused-whole 1 n e
 tests-of true false false false m n e = (refl, refl, refl, refl, cc)
 
+-- no frame is refused with the number 0
+refused-tests : (a b c d : Bool) (m k : ℕ) → either a (λ _. either b (λ _. Refused 1) (λ _. either c (λ _. Refused 3) (λ _. either d (λ _. Refused 1) (λ _. Whole m)))) (λ _. Refused 2) ≡ Refused k → 0 < k
+refused-tests false b c d m k e = let i : 2 ≡ k = cc in omega arith
+refused-tests true true c d m k e = let i : 1 ≡ k = cc in omega arith
+refused-tests true false true d m k e = let i : 3 ≡ k = cc in omega arith
+refused-tests true false false true m k e = let i : 1 ≡ k = cc in omega arith
+refused-tests true false false false m k e = refused-whole k m (sym e)
+
+pub refused-number : (s : List ℕ) (k : ℕ) → framedOf s ≡ Refused k → 0 < k
+unfolding framedOf
+refused-number s k e =
+    refused-tests (agrees identifier s) (ltb (length s) 12) (eqb (sizeOf s) 0 || ltb 4096 (sizeOf s)) (ltb (length s) (12 + sizeOf s)) (sizeOf s) k e
+
 neither : (a b : Bool) → a || b ≡ false → (a ≡ false) × (b ≡ false)
 neither true b e = true-false e
 neither false b e = (refl, e)
@@ -45,6 +58,9 @@ module _ (s : List ℕ) (n : ℕ) (e : framedOf s ≡ Whole n) where
   passed =
       tests-of (agrees identifier s) (ltb (length s) 12) (eqb (sizeOf s) 0 || ltb 4096 (sizeOf s))
       (ltb (length s) (12 + sizeOf s)) (sizeOf s) n e
+
+  pub whole-size : sizeOf s ≡ n
+  whole-size = passed .4
 
   pub fits : 12 + n ≤ length s
   fits = omega (arith, ltb-false (length s) (12 + sizeOf s) (passed .3), passed .4)
@@ -105,4 +121,4 @@ module _ (p t : List ℕ) (some : 1 ≤ length p) (small : length p ≤ 4096) wh
       ap (take (length p)) (sym (drop-drop 4 8 input) ∙ ap (drop 4) behind ∙ drop-at (littleBytes 4 (length p)) (p ++ t) 4 (length-little 4 (length p)))
       ∙ take-append-seam p t
 
-pub ruleset format = (fits, is-frame, is-whole, is-payload)
+pub ruleset format = (refused-number, whole-size, fits, is-frame, is-whole, is-payload)

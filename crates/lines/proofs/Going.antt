@@ -1,6 +1,6 @@
 -- The turns come to an end, whatever arrives and however it is cut: a turn that passes over a frame leaves fewer bytes, and one that waits takes
 -- a piece or is told the end. So what they print is the one text of the whole input. Assumes nothing.
-use mathlib.Core.Path.{_≡_, refl, sym, ap, _∙_}
+use mathlib.Core.Path.{_≡_, refl}
 use mathlib.Core.Bool.{Bool, true, false}
 use mathlib.Core.List.{List, [], _∷_, _++_}
 use Prim.Native.Nat.{ℕ, zero, suc, _+_, _-_, _≤_}
@@ -9,13 +9,14 @@ use lib.ListN.{length, drop, length-drop}
 use Rattle.octets.proofs.Ranges.{true-false}
 use Rattle.frame.specs.declared.Framed.{Framed}
 use Rattle.frame.specs.declared.Framed.the-variants.{Whole, Refused}
-use Rattle.frame.specs.Frame.{framedOf, payloadOf, usedOf, refusalOf}
+use Rattle.frame.specs.Frame.{framedOf, payloadOf}
 use Rattle.frame.proofs.Format.{fits}
 use Rattle.message.specs.Meant.{refusedAt}
 use Rattle.message.specs.Cells.{toldAt}
 use Rattle.message.proofs.Read.{told-meant}
 use Rattle.reading.specs.declared.Unframed.{Unframed}
 use Rattle.reading.specs.Framed.{MeantFramed}
+use Rattle.reading.proofs.Framing.{refused-meant, whole-meant}
 use Rattle.lines.specs.Turn.{Says, saysOf}
 use Rattle.lines.specs.Runs.{Said, Runs, whole}
 use Rattle.lines.proofs.Printing.{prints-once}
@@ -26,22 +27,8 @@ read-all : (h : List ℕ) → (u : Unframed) × MeantFramed h u
 read-all h = go (framedOf h) refl
   where
     go : (f : Framed) → framedOf h ≡ f → (u : Unframed) × MeantFramed h u
-    go (Refused k) e = (
-      record { used = 0; told = refusedAt k 0 },
-      record {
-        used = sym (ap usedOf e);
-        refused = λ n j. ap (λ (x : Framed). refusedAt (refusalOf x) 0) (sym e ∙ j);
-        whole = λ n j. let z : _≡_ {A = ℕ} 0 1 = cc in absurd (omega arith);
-      },
-    )
-    go (Whole k) e = (
-      record { used = 12 + k; told = toldAt (payloadOf k h) },
-      record {
-        used = sym (ap usedOf e);
-        refused = λ n j. let z : _≡_ {A = ℕ} 0 1 = cc in absurd (omega arith);
-        whole = λ n j. let i : 12 + k ≡ 12 + n = ap usedOf (sym e ∙ j) in let v : k ≡ n = omega arith in rw v (told-meant (payloadOf n h));
-      },
-    )
+    go (Refused k) e = (record { used = 0; told = refusedAt k 0 }, refused-meant h k e (refusedAt k 0) refl)
+    go (Whole k) e = let t = toldAt (payloadOf k h) in (record { used = 12 + k; told = t }, whole-meant h k e t (told-meant (payloadOf k h)))
 
 said-all : (last : Bool) (n : ℕ) (h : List ℕ) → (x : Says) × Said last n h x
 said-all last n h = let r = read-all h in (saysOf last n (length h) (r .0), record { frame = r .0; meant = r .1; says = refl })

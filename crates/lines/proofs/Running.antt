@@ -18,12 +18,13 @@ use Rattle.message.specs.declared.Told.{Told}
 use Rattle.message.specs.Meant.{Meant}
 use Rattle.reading.specs.declared.Unframed.{Unframed}
 use Rattle.reading.specs.Framed.{MeantFramed}
+use Rattle.reading.proofs.Framing.{refused-told, whole-told}
 use Rattle.lines.specs.Lines.{lineOf, endLine, stopLines}
 use Rattle.lines.specs.Turn.{Says, saysRefused, saysOf}
 use Rattle.lines.specs.Prints.{Prints}
 use Rattle.lines.specs.Runs.{Said, Runs, whole}
 use Rattle.lines.proofs.Straddle.{straddles, whole-straddles, payload-straddles, rest-straddles}
-use Rattle.lines.proofs.Printing.{empty-waits}
+use Rattle.lines.proofs.Printing.{empty-waits, framed-prints, stopped-prints}
 
 -- what a turn says: a line, nothing yet, the end, or a stop
 pub data Way (last : Bool) (n : ℕ) (h : List ℕ) : Says → Type 0 where
@@ -69,13 +70,13 @@ module _ (last : Bool) (n : ℕ) (h : List ℕ) where
     unfolding saysOf
     refused-says k e =
         let d : u .used ≡ 0 = m .used ∙ ap usedOf e in
-        simp (eq-eqb (u .used) 0 d) (ap (λ (t : Told). saysRefused last n (length h) (t .refusal)) (m .refused k e))
+        simp (eq-eqb (u .used) 0 d) (ap (λ (t : Told). saysRefused last n (length h) (t .refusal)) (refused-told h k e u m))
 
     says-way : Way last n h (saysOf last n (length h) u)
     says-way = go (framedOf h) refl
       where
         go : (f : Framed) → framedOf h ≡ f → Way last n h (saysOf last n (length h) u)
-        go (Whole size) e = subst (λ (x : Says). Way last n h x) (sym (whole-says size e)) (Way.line size (u .told) e (m .whole size e))
+        go (Whole size) e = subst (λ (x : Says). Way last n h x) (sym (whole-says size e)) (Way.line size (u .told) e (whole-told h size e u m))
         go (Refused k) e = subst (λ (x : Says). Way last n h x) (sym (refused-says k e)) (refused-way k e)
 
   pub said-way : (x : Says) → Said last n h x → Way last n h x
@@ -94,11 +95,11 @@ module _ (last : Bool) (n : ℕ) (h t out : List ℕ) (seen : last ≡ true → 
   ended-prints x (Way.line size told e w) d = true-false (sym d)
   ended-prints x (Way.wait e l) d = true-false (sym d)
   ended-prints x (Way.end e l) d = rw (e, seen l) (Prints.finished n)
-  ended-prints x (Way.stop k g e c) d = Prints.stopped n (h ++ t) k (omega (arith, length-append h t)) (refused-straddles k e c)
+  ended-prints x (Way.stop k g e c) d = stopped-prints n (h ++ t) k (refused-straddles k e c) (omega (arith, length-append h t))
 
   passed-prints : (x : Says) → Way last n h x → x .ended ≡ false → (x .used ≡ 0 → ⊥) → Prints (suc n) (drop (x .used) h ++ t) out → Prints n (h ++ t) (x .text ++ out)
   passed-prints x (Way.line size told e w) d z p =
-      Prints.framed n (h ++ t) out size told (whole-straddles h t size e) (rw (payload-straddles h t size e) w) (rw (rest-straddles h t size e) p)
+      framed-prints n (h ++ t) size (whole-straddles h t size e) told out (rw (payload-straddles h t size e) w) (rw (rest-straddles h t size e) p)
   passed-prints x (Way.wait e l) d z p = absurd (z refl)
   passed-prints x (Way.end e l) d z p = true-false d
   passed-prints x (Way.stop k g e c) d z p = true-false d

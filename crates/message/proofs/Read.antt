@@ -19,13 +19,14 @@ use Rattle.element.specs.declared.Step.{Step}
 use Rattle.element.specs.declared.Step.the-variants.{Next, Broken}
 use Rattle.element.specs.declared.Walked.{Walked}
 use Rattle.element.specs.declared.Walked.the-variants.{Whole, Refused}
-use Rattle.element.specs.Form.{Role, spanOf, elementOf, ended, walkOf}
+use Rattle.element.specs.Form.{Role, spanOf, elementOf, ended, walkOf, refusalOf, placeOf}
 use Rattle.element.specs.Tree.{Tree, Pairs, bytesOf, bytesOfPairs, countOf, countOfPairs, depthOf, depthOfPairs, pairsOf, IsBody, Lawful, LawfulPairs, Payload}
 use Rattle.element.specs.Tree.Tree.{leaf, array, map}
 use Rattle.element.specs.Meaning.{Element, Fields, meaningOf, meaningOfPairs}
 use Rattle.element.proofs.Steps.{suits-outer}
 use Rattle.element.proofs.Passed.{span-opens, map-never, headed, inside, inside-le}
 use Rattle.element.proofs.Whole.{tree-whole, whole-tree}
+use Rattle.element.proofs.Numbered.{break-number}
 use Rattle.names.specs.Names.{bytes, keys, nameAt, slotOf, commandOf}
 use Rattle.names.proofs.Places.{command-small}
 use Rattle.field.specs.Kind.{kindOf}
@@ -131,20 +132,31 @@ told-walked s = go (eqb (length s) 0) (ltb 4096 (length s))
     go false true = refl
     go false false = ended-told s (elementOf s 8 Role.outer 0 0)
 
+walked-broken : (r : Walked) (k : ℕ → Told) → (refusalOf r ≡ 0 → ⊥) → walked r k ≡ refusedAt (refusalOf r) (placeOf r)
+unfolding walked
+walked-broken (Refused n p) k b = refl
+walked-broken (Whole c) k b = absurd (b refl)
+
 -- what the code answers is meant
 pub told-meant : (s : List ℕ) → Meant s (toldAt s)
 unfolding walked
 told-meant s = record {
-  broken = λ n p e. told-walked s ∙ ap (λ (r : Walked). walked r (λ c. toldOf c (readingAt s (placesOf s)))) e;
+  broken = λ b. told-walked s ∙ walked-broken (walkOf s) (λ c. toldOf c (readingAt s (placesOf s))) b;
   whole = λ w P.
       told-walked s ∙ ap (λ (r : Walked). walked r (λ c. toldOf c (readingAt s (placesOf s)))) (tree-whole s w P)
       ∙ ap (toldOf (countOf w)) (same-reading s (placesOf s) (outerOf (meaningOf w)) (payload-agrees s w P));
 }
+
+-- of a payload whose walk breaks the break is told: its number is never 0
+pub broken-told : (s : List ℕ) (r : Told) → Meant s r → (n p : ℕ) → walkOf s ≡ Refused n p → r ≡ refusedAt n p
+broken-told s r m n p e =
+    let b : 0 < n = break-number s n p e in
+    m .broken (λ z. let i : n ≡ 0 = sym (ap refusalOf e) ∙ z in omega arith) ∙ ap (λ (x : Walked). refusedAt (refusalOf x) (placeOf x)) e
 
 -- no second answer is meant: every payload breaks a rule of form or is written by a tree
 pub meant-once : (s : List ℕ) (r q : Told) → Meant s r → Meant s q → r ≡ q
 meant-once s r q m n = go (walkOf s) refl
   where
     go : (x : Walked) → walkOf s ≡ x → r ≡ q
-    go (Refused k p) e = m .broken k p e ∙ sym (n .broken k p e)
+    go (Refused k p) e = broken-told s r m k p e ∙ sym (broken-told s q n k p e)
     go (Whole c) e = let t = whole-tree s c e in m .whole (t .0) (t .1) ∙ sym (n .whole (t .0) (t .1))

@@ -2,9 +2,7 @@
 use mathlib.Core.Path.{_≡_}
 use Prim.Native.Nat.{ℕ}
 use mathlib.Core.List.{List}
-use Rattle.element.specs.declared.Walked.{Walked}
-use Rattle.element.specs.declared.Walked.the-variants.{Whole, Refused}
-use Rattle.element.specs.Form.{walkOf}
+use Rattle.element.specs.Form.{walkOf, refusalOf, placeOf}
 use Rattle.element.specs.Tree.{Tree, countOf, Payload}
 use Rattle.element.specs.Meaning.{Element, Fields, meaningOf}
 use Rattle.element.specs.Meaning.Element.{null, truth, whole, single, double, text, octets, typed, list, table}
@@ -36,5 +34,5 @@ toldOf c (Reading.reads m) = record { refusal = 0; place = 0; count = c; message
 
 -- for a payload that breaks a rule of form, the break; for the bytes of a lawful tree, its count and the reading of its element
 pub record Meant (s : List ℕ) (r : Told) : Type 0 where
-  pub broken : (n p : ℕ) → walkOf s ≡ Refused n p → r ≡ refusedAt n p
+  pub broken : (refusalOf (walkOf s) ≡ 0 → ⊥) → r ≡ refusedAt (refusalOf (walkOf s)) (placeOf (walkOf s))
   pub whole : (w : Tree) → Payload s w → r ≡ toldOf (countOf w) (readingOf (outerOf (meaningOf w)))

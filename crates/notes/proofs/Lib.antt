@@ -1,3 +1,4 @@
 pub mod Turns
 pub mod Opening
 pub mod Naming
+pub mod Settled

@@ -14,6 +14,7 @@ use Rattle.element.specs.Tree.Tree.{array, map}
 use Rattle.element.specs.Tree.Trees.{none, some}
 use Rattle.message.specs.Fields.{lists, listIn}
 use Rattle.message.specs.Meant.{Meant}
+use Rattle.message.proofs.Read.{broken-told}
 use Rattle.message.specs.declared.Told.{Told}
 use Rattle.promises.specs.Steady.{Changed, Says, Alike}
 use Rattle.promises.proofs.Tested.{isLawful, lawful, isPayload, says}
@@ -76,5 +77,5 @@ over-refused = refl
 pub over-unlike : (r q : Told) → Meant P r → Meant (P-heaped 1018) q → Alike r q → ⊥
 over-unlike r q M N A =
     let e : r .refusal ≡ 0 = ap (λ (x : Told). x .refusal) (answered P ping ping-said (added-read .message) (added-read .first) r M) in
-    let f : q .refusal ≡ 7 = ap (λ (x : Told). x .refusal) (N .broken 7 1042 over-refused) in
+    let f : q .refusal ≡ 7 = ap (λ (x : Told). x .refusal) (broken-told (P-heaped 1018) q N 7 1042 over-refused) in
     omega (arith, A .refusal)

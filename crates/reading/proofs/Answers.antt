@@ -14,7 +14,7 @@ use Rattle.element.specs.declared.Step.the-variants.{Next, Broken}
 use Rattle.element.specs.Form.{Role, elementOf}
 use Rattle.frame.specs.declared.Framed.{Framed}
 use Rattle.frame.specs.declared.Framed.the-variants.{Whole, Refused}
-use Rattle.frame.specs.Frame.{framedOf, payloadOf, refusalOf, usedOf}
+use Rattle.frame.specs.Frame.{framedOf, payloadOf}
 use Rattle.frame.proofs.Format.{fits}
 use Rattle.names.specs.Names.{bytes, keys, placeIn, slotOf}
 use Rattle.field.specs.Cell.{Cell, zero64}
@@ -42,6 +42,7 @@ use Rattle.reading.specs.Ways.{crossedBy, gradedAs, refused, namedBy, be
 use Rattle.reading.specs.declared.Begun.{Begun}
 use Rattle.reading.specs.declared.Unframed.{Unframed}
 use Rattle.reading.specs.Framed.{MeantFramed}
+use Rattle.reading.proofs.Framing.{refused-meant, whole-meant}
 use Rattle.reading.proofs.Across.{lookAt, crossed-is}
 use Rattle.reading.proofs.Filling.{filled, built-blank}
 
@@ -287,19 +288,11 @@ read-meant s n p b r en ep eb er =
 -- the frame
 module _ (s : List ℕ) (f : Framed) (e : f ≡ framedOf s) where
   pub framed-refused : (n : ℕ) (t : Told) → f ≡ Refused n → t ≡ refusedAt n 0 → MeantFramed s (record { used = 0; told = t })
-  framed-refused n t h q = record {
-    used = sym (ap usedOf (sym e ∙ h));
-    refused = λ m k. q ∙ ap (λ (x : Framed). refusedAt (refusalOf x) 0) (sym h ∙ e ∙ k);
-    whole = λ m k. let z : _≡_ {A = ℕ} 0 1 = cc in absurd (omega arith);
-  }
+  framed-refused n t h q = refused-meant s n (sym e ∙ h) t q
 
   module _ (n : ℕ) (h : f ≡ Whole n) where
     pub framed-whole : (p : List ℕ) (t : Told) → p ≡ payloadOf n s → Meant p t → MeantFramed s (record { used = 12 + n; told = t })
-    framed-whole p t q m = record {
-      used = sym (ap usedOf (sym e ∙ h));
-      refused = λ k j. let z : _≡_ {A = ℕ} 0 1 = cc in absurd (omega arith);
-      whole = λ k j. let i : 12 + n ≡ 12 + k = ap usedOf (sym h ∙ e ∙ j) in let v : n ≡ k = omega arith in subst (λ (y : List ℕ). Meant y t) (q ∙ ap (λ (x : ℕ). payloadOf x s) v) m;
-    }
+    framed-whole p t q m = whole-meant s n (sym e ∙ h) t (subst (λ (y : List ℕ). Meant y t) q m)
 
     pub framed-fits : length s < 2 ^ 64 → 12 + n < 2 ^ 64
     framed-fits l = omega (arith, fits s n (sym e ∙ h))

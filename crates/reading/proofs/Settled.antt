@@ -13,6 +13,7 @@ use Rattle.message.specs.Meant.{Meant, outerOf, toldOf}
 use Rattle.message.proofs.Read.{meant-once}
 use Rattle.reading.specs.declared.Unframed.{Unframed}
 use Rattle.reading.specs.Framed.{MeantFramed}
+use Rattle.reading.proofs.Framing.{refused-told, whole-told}
 
 module _ (s : List ℕ) where
   pub read-settled : (r q : Told) → Meant s r → Meant s q → r ≡ q
@@ -26,7 +27,7 @@ module _ (s : List ℕ) where
   read-framed-settled r q m n = λ i. record { used = (m .used ∙ sym (n .used)) i; told = same-told (framedOf s) refl i }
     where
       same-told : (f : Framed) → framedOf s ≡ f → r .told ≡ q .told
-      same-told (Refused k) e = m .refused k e ∙ sym (n .refused k e)
-      same-told (Whole k) e = meant-once (payloadOf k s) (r .told) (q .told) (m .whole k e) (n .whole k e)
+      same-told (Refused k) e = refused-told s k e r m ∙ sym (refused-told s k e q n)
+      same-told (Whole k) e = meant-once (payloadOf k s) (r .told) (q .told) (whole-told s k e r m) (whole-told s k e q n)
 
 pub ruleset settled = (read-settled, read-tree, read-framed-settled)

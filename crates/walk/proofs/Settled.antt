@@ -2,13 +2,13 @@
 use mathlib.Core.Path.{_≡_, sym, _∙_}
 use mathlib.Core.Bool.{Bool, true, false}
 use mathlib.Core.List.{List}
-use Prim.Native.Nat.{ℕ, _+_}
+use Prim.Native.Nat.{ℕ}
 use Rattle.element.specs.declared.Head.{Head}
 use Rattle.element.specs.declared.Step.{Step}
 use Rattle.element.specs.declared.Walked.{Walked}
 use Rattle.element.specs.Lead.{headOf}
 use Rattle.element.specs.Form.{Role, isText, isMap, elementOf, itemsOf, walkOf}
-use Rattle.walk.specs.Short.{Says, twoTo, quickOf, quickAt, isShort}
+use Rattle.walk.specs.Short.{Says, twoTo}
 use Rattle.walk.specs.Turn.{roleOf}
 
 module _ (b : ℕ) where
@@ -24,19 +24,7 @@ module _ (b : ℕ) where
   pub two-to-settled : (r q : ℕ) → r ≡ twoTo b → q ≡ twoTo b → r ≡ q
   two-to-settled r q e f = e ∙ sym f
 
-  pub quick-of-settled : (r q : ℕ) → r ≡ quickOf b → q ≡ quickOf b → r ≡ q
-  quick-of-settled r q e f = e ∙ sym f
-
-  pub is-short-settled : (r q : Bool) → r ≡ isShort b → q ≡ isShort b → r ≡ q
-  is-short-settled r q e f = e ∙ sym f
-
 module _ (s : List ℕ) (at count left : ℕ) where
-  pub quick-value-settled : (r q : ℕ) → r ≡ quickAt s left Role.value at count → q ≡ quickAt s left Role.value at count → r ≡ q
-  quick-value-settled r q e f = e ∙ sym f
-
-  pub quick-key-settled : (r q : ℕ) → r ≡ quickAt s left Role.key at (count + 1) → q ≡ quickAt s left Role.key at (count + 1) → r ≡ q
-  quick-key-settled r q e f = e ∙ sym f
-
   pub element-settled : (key : Bool) (r q : Step) → r ≡ elementOf s left (roleOf key) at count → q ≡ elementOf s left (roleOf key) at count → r ≡ q
   element-settled key r q e f = e ∙ sym f
 
@@ -60,10 +48,6 @@ pub ruleset settled = (
   is-text-settled,
   is-map-settled,
   two-to-settled,
-  quick-of-settled,
-  is-short-settled,
-  quick-value-settled,
-  quick-key-settled,
   element-settled,
   key-settled,
   value-settled,

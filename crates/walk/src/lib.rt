@@ -2,8 +2,8 @@
 // break with its place, or the count of elements. It takes any bytes; no stated length is trusted; it ends
 // because the levels left or the items left fall, and it visits at most 1,024 elements.
 pub mod lead;
-pub mod run;
-pub mod short;
+mod run;
+mod short;
 pub mod steps;
 
 use element::Step;

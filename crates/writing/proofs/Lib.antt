@@ -4,5 +4,4 @@ pub mod Bodies
 pub mod Titles
 pub mod Framing
 pub mod Settled
-pub mod Refusals
 pub mod Promise

@@ -16,16 +16,18 @@ use Rattle.element.specs.Form.{walkOf}
 use Rattle.element.specs.Tree.{countOf}
 use Rattle.element.specs.Meaning.{Fields, meaningOf}
 use Rattle.element.proofs.Whole.{whole-tree}
+use Rattle.element.proofs.Numbered.{break-number}
 use Rattle.message.specs.Reading.{Reading, readingOf}
 use Rattle.message.specs.Meant.{Meant, outerOf, refusedAt, toldOf}
 use Rattle.message.specs.declared.Message.{Message}
 use Rattle.message.specs.declared.Told.{Told}
+use Rattle.message.proofs.Read.{broken-told}
+use Rattle.message.proofs.Refusals.{reading-number}
 use Rattle.saying.specs.Fits.{fits}
 use Rattle.saying.specs.Written.{treeFor, payloadFor, frameOf}
 use Rattle.saying.proofs.Payloads.{payload-for}
 use Rattle.saying.proofs.RoundTrip.{reads-again}
 use Rattle.saying.proofs.Read.{read-fits}
-use Rattle.writing.proofs.Refusals.{break-number, reading-number}
 
 -- a payload in its frame, whatever is behind it
 module _ (d rest : List ℕ) (some : 0 < length d) (small : length d ≤ 4096) where
@@ -55,7 +57,7 @@ pub read-writes : (s : List ℕ) (r : Told) → Meant s r → r .refusal ≡ 0 �
 read-writes s r h none = go (walkOf s) refl
   where
     go : (x : Walked) → walkOf s ≡ x → T (fits (r .message))
-    go (Refused n p) e = not-refused r none n p (break-number s n p e) (h .broken n p e)
+    go (Refused n p) e = not-refused r none n p (break-number s n p e) (broken-told s r h n p e)
     go (Whole c) e =
         let w = whole-tree s c e .0 in
         let fs = outerOf (meaningOf w) in
