@@ -1,5 +1,6 @@
 // Reads frames from standard input and prints a line for each (document 01, "Program"). What is printed stands in `lines::turn`; here bytes are
-// read in pieces, and what is left of a piece goes to the front of the next.
+// read in pieces, and what is left of a piece goes to the front of the next. A read or a write that fails ends the run with a line on standard
+// error and without the last line: a program has no exit status here, so that a script can tell by these.
 use libc::STDIN_FILENO;
 use libc::STDOUT_FILENO;
 use lines::Took;
@@ -15,6 +16,12 @@ struct State {
     number: u64,
     last: bool,
     ended: bool,
+}
+
+// What a read gave: so many bytes, or none because it failed.
+struct Got {
+    failed: bool,
+    bytes: usize,
 }
 
 // A proved loop has to end, so it counts down from a number that no run uses up.
@@ -91,6 +98,9 @@ fn count(number: u64, used: usize) -> u64 {
 // The text is written; where it can't be, nothing more is done.
 fn flushed(out: &[u8], s: State) -> State {
     let is_written = io::write_all(STDOUT_FILENO, part(out, 0, s.filled));
+    if !is_written {
+        os::fail(b"frames: standard output");
+    }
     State {
         from: s.from,
         to: s.to,
@@ -103,22 +113,31 @@ fn flushed(out: &[u8], s: State) -> State {
 
 // The bytes at hand go to the front, and a piece is read behind them. There is room for one: fewer than 4,108 bytes are waited on.
 fn refill(held: &mut [u8], s: State) -> State {
+    if s.ended {
+        return s;
+    }
     let n = to_front(held, s.from, s.to);
-    let more = read_behind(held, n);
+    let got = read_behind(held, n);
     State {
         from: 0,
-        to: moved(n, more, held.len()),
+        to: moved(n, got.bytes, held.len()),
         filled: s.filled,
         number: s.number,
-        last: more == 0,
-        ended: s.ended,
+        last: got.bytes == 0,
+        ended: got.failed,
     }
 }
 
-fn read_behind(held: &mut [u8], n: usize) -> usize {
+fn read_behind(held: &mut [u8], n: usize) -> Got {
     let from = at_most(n, held.len());
     let got = libc::read(STDIN_FILENO, &mut held[from..]);
-    io::count(got, &held[from..])
+    if got < 0 {
+        os::fail(b"frames: standard input");
+    }
+    Got {
+        failed: got < 0,
+        bytes: io::count(got, &held[from..]),
+    }
 }
 
 // The bytes at hand, moved to the front; the answer is how many they are.
