@@ -1,6 +1,7 @@
 -- What the calls answer, packed into one number. Assumes nothing.
-use mathlib.Core.Path.{_≡_, sym, ap, _∙_}
+use mathlib.Core.Path.{_≡_, refl, sym, ap, _∙_}
 use Prim.Native.Nat.{ℕ, _+_, _*_, _≤_, _<_}
+use native.Mathlib.Omega.{arith}
 use borrow.Author.Tests.{le-leb, lt-leb}
 use Rattle.element.specs.declared.Walked.{Walked}
 use Rattle.element.specs.declared.Walked.the-variants as walked
@@ -10,9 +11,9 @@ use Rattle.meters.specs.declared.Found.{Found}
 use Rattle.meters.specs.declared.Found.the-variants as found
 use Rattle.meters.specs.declared.Credit.{Credit}
 use Rattle.meters.specs.declared.Credit.the-variants as credit
-use Rattle.meters.specs.Answers.{refusalOf, rowOf, creditRefusalOf, hearersOf}
+use Rattle.meters.specs.Answers.{refusalOf, rowOf, creditRefusalOf, creditRowOf, hearersOf}
 use Rattle.meters.specs.Columns.{Columns, Done, toldPlace, toldCredit}
-use Rattle.chozukpima.specs.Packed.{most, shown, packed, frameAnswer, formAnswer, creditKind, Told, told, placed, credited}
+use Rattle.chozukpima.specs.Packed.{most, shown, packed, frameAnswer, formAnswer, creditKind, creditValue, Told, told, placed, credited}
 
 pub shown-whole : (v : ℕ) → v ≤ most → v ≡ shown v
 unfolding shown
@@ -47,21 +48,40 @@ module _ (f : Found) (r k : ℕ) where
   pub place-refused : f ≡ found.Refused k → r ≡ packed k 0 0 → r ≡ packed (refusalOf f) 0 (rowOf f)
   place-refused e p = p ∙ ap (λ x. packed (refusalOf x) 0 (rowOf x)) (sym e)
 
-module _ (f : Credit) (r k : ℕ) where
-  pub credit-new : f ≡ credit.New k → r ≡ packed 0 1 k → r ≡ packed (creditRefusalOf f) (creditKind f) (hearersOf f)
-  credit-new e p = p ∙ ap (λ x. packed (creditRefusalOf x) (creditKind x) (hearersOf x)) (sym e)
+-- a credit's value: a row past 40 bits is a value past 48
+module _ (k i : ℕ) where
+  pub value-whole : shown (k + 256 * i) ≡ shown (creditValue k i)
+  unfolding creditValue
+  value-whole = refl
 
-  pub credit-copy : f ≡ credit.Copy k → r ≡ packed 0 2 k → r ≡ packed (creditRefusalOf f) (creditKind f) (hearersOf f)
-  credit-copy e p = p ∙ ap (λ x. packed (creditRefusalOf x) (creditKind x) (hearersOf x)) (sym e)
+  pub value-most : 0xFFFFFFFFFF < i → shown most ≡ shown (creditValue k i)
+  unfolding creditValue
+  value-most h = sym (shown-whole most (omega arith)) ∙ shown-most (k + 256 * i) (omega arith)
 
-  pub credit-refused : f ≡ credit.Refused k → r ≡ packed k 0 0 → r ≡ packed (creditRefusalOf f) (creditKind f) (hearersOf f)
-  credit-refused e p = p ∙ ap (λ x. packed (creditRefusalOf x) (creditKind x) (hearersOf x)) (sym e)
+packed-shown : (a b v w : ℕ) → shown v ≡ shown w → packed a b v ≡ packed a b w
+unfolding packed
+packed-shown a b v w e = ap (λ x. a + (256 * b + 65536 * x)) e
+
+abbrev packedCredit : Credit → ℕ
+packedCredit c = packed (creditRefusalOf c) (creditKind c) (creditValue (hearersOf c) (creditRowOf c))
+
+module _ (c : Credit) (r k : ℕ) where
+  module _ (i v : ℕ) (s : shown v ≡ shown (creditValue k i)) where
+    pub credit-new : c ≡ credit.New k i → r ≡ packed 0 17 v → r ≡ packedCredit c
+    credit-new e p = p ∙ packed-shown 0 17 v (creditValue k i) s ∙ ap packedCredit (sym e)
+
+    pub credit-copy : c ≡ credit.Copy k i → r ≡ packed 0 18 v → r ≡ packedCredit c
+    credit-copy e p = p ∙ packed-shown 0 18 v (creditValue k i) s ∙ ap packedCredit (sym e)
+
+  pub credit-refused : c ≡ credit.Refused k → r ≡ packed k 0 0 → r ≡ packedCredit c
+  unfolding creditValue
+  credit-refused e p = p ∙ ap packedCredit (sym e)
 
 -- the answer and the columns afterwards
 pub found-told : (f : Found) (r : ℕ) (c : Columns) (d : Done Found) → r ≡ packed (refusalOf f) 0 (rowOf f) → toldPlace f c ≡ d → _≡_ {A = Told} (told r c) (placed d)
 found-told f r c d e p = ap (λ x. told x c) e ∙ ap placed p
 
-pub credit-told : (f : Credit) (r : ℕ) (c : Columns) (d : Done Credit) → r ≡ packed (creditRefusalOf f) (creditKind f) (hearersOf f) → toldCredit f c ≡ d → _≡_ {A = Told} (told r c) (credited d)
+pub credit-told : (f : Credit) (r : ℕ) (c : Columns) (d : Done Credit) → r ≡ packedCredit f → toldCredit f c ≡ d → _≡_ {A = Told} (told r c) (credited d)
 credit-told f r c d e p = ap (λ x. told x c) e ∙ ap credited p
 
-pub ruleset answers = (shown-whole, shown-most, packed-as, frame-whole, frame-refused, form-whole, form-refused, place-found, place-refused, credit-new, credit-copy, credit-refused, found-told, credit-told)
+pub ruleset answers = (shown-whole, shown-most, packed-as, frame-whole, frame-refused, form-whole, form-refused, place-found, place-refused, value-whole, value-most, credit-new, credit-copy, credit-refused, found-told, credit-told)

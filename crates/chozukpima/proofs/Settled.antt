@@ -7,12 +7,22 @@ use Prim.Native.Nat.{ℕ}
 use lib.Dec.{eqb}
 use lib.ListN.{length}
 use borrow.Author.Tests.{eqb-true, eqb-false}
+use Rattle.element.specs.Form.{walkOf}
+use Rattle.frame.specs.Frame.{framedOf}
 use Rattle.message.specs.Cells.{toldAt}
 use Rattle.message.proofs.Read.{told-meant}
 use Rattle.images.specs.Record.{recordSize}
-use Rattle.chozukpima.specs.Packed.{Told as Table}
+use Rattle.chozukpima.specs.Packed.{frameAnswer, formAnswer, Told as Table}
 use Rattle.chozukpima.specs.Messages.{toldAnswer, imageAfter, ReadInto, writeAnswer, roomWritten}
 use Rattle.chozukpima.specs.Sessions.{Called, lostAnswer, lostSession}
+
+-- the answers on the bytes that arrived, which are lent to be read alone
+module _ (bytes : List ℕ) (r q : ℕ) where
+  pub frame-settled : r ≡ frameAnswer (framedOf bytes) → q ≡ frameAnswer (framedOf bytes) → r ≡ q
+  frame-settled e f = e ∙ sym f
+
+  pub form-settled : r ≡ formAnswer (walkOf bytes) → q ≡ formAnswer (walkOf bytes) → r ≡ q
+  form-settled e f = e ∙ sym f
 
 -- a table call's answer and columns, a session call's answer, session and room, are those of the definition
 pub table-settled : (d r q : Table) → r ≡ d → q ≡ d → r ≡ q

@@ -1,5 +1,5 @@
--- One number answers every call: bits 0 to 7 the refusal (0: done), 8 to 15 what happened, 16 to 63 the value: a length, a count, a row, or the
--- place for refusals 4 to 10. A value past 48 bits, which no memory has room for, shows as the greatest.
+-- One number answers every call: bits 0 to 7 the refusal (0: done), 8 to 15 what happened, 16 to 63 the value: a length, a count, a row, a credit's
+-- hearers and row, or the place for refusals 4 to 10. A value past 48 bits, which no memory has room for, shows as the greatest.
 use Prim.Native.Nat.{ℕ, _+_, _*_}
 use lib.Dec.{leb}
 use Rattle.octets.specs.Choice.{either}
@@ -33,16 +33,20 @@ formAnswer (walked.Whole n) = packed 0 0 n
 formAnswer (walked.Refused k p) = packed k 0 p
 
 abbrev pub placeAnswer : Done Found → ℕ
-placeAnswer d = packed (d .refusal) 0 (d .value)
+placeAnswer d = packed (d .refusal) 0 (d .row)
 
--- 1 new, 2 a copy
+-- 17 new, 18 a copy: no number of a session's step
 abbrev pub creditKind : Credit → ℕ
-creditKind (credit.New k) = 1
-creditKind (credit.Copy k) = 2
+creditKind (credit.New k i) = 17
+creditKind (credit.Copy k i) = 18
 creditKind (credit.Refused n) = 0
 
+-- the hearers, who are at most 64, in the value's low byte, and the row above it
+unfoldable pub creditValue : ℕ → ℕ → ℕ
+creditValue hearers row = hearers + 256 * row
+
 abbrev pub creditAnswer : Done Credit → ℕ
-creditAnswer d = packed (d .refusal) (creditKind (d .answer)) (d .value)
+creditAnswer d = packed (d .refusal) (creditKind (d .answer)) (creditValue (d .hearers) (d .row))
 
 -- an answer, and the columns afterwards
 pub record Told : Type 0 where

@@ -3,9 +3,9 @@ use crate::answer::pack;
 use meters::Credit;
 use meters::Found;
 ghost use mathlib.Core.Path.{_≡_};
-ghost use Rattle.meters.specs.Answers.{refusalOf, rowOf, creditRefusalOf, hearersOf};
+ghost use Rattle.meters.specs.Answers.{refusalOf, rowOf, creditRefusalOf, creditRowOf, hearersOf};
 ghost use Rattle.meters.specs.Columns.{columns, findOn, enrolOn, withdrawOn, uplinkOn};
-ghost use Rattle.chozukpima.specs.Packed.{packed, creditKind, Told, told, placed, credited};
+ghost use Rattle.chozukpima.specs.Packed.{shown, packed, creditKind, creditValue, Told, told, placed, credited};
 
 fn place_answer(f: Found) -> u64
     ensures { λ r. ⌜ r ≡ packed (refusalOf f) 0 (rowOf f) ⌝ }
@@ -16,12 +16,22 @@ fn place_answer(f: Found) -> u64
     }
 }
 
+// A credit's value. A row past 40 bits, whose product may wrap, has the greatest value, as `pack` would show it.
+fn credit_value(hearers: u32, row: usize) -> usize
+    ensures { λ r. ⌜ shown r ≡ shown (creditValue hearers row) ⌝ }
+{
+    if 0xFF_FFFF_FFFF < row {
+        return 0xFFFF_FFFF_FFFF;
+    }
+    hearers as usize + 256 * row
+}
+
 fn credit_answer(c: Credit) -> u64
-    ensures { λ r. ⌜ r ≡ packed (creditRefusalOf c) (creditKind c) (hearersOf c) ⌝ }
+    ensures { λ r. ⌜ r ≡ packed (creditRefusalOf c) (creditKind c) (creditValue (hearersOf c) (creditRowOf c)) ⌝ }
 {
     match c {
-        Credit::New(k) => pack(0, 1, k as usize),
-        Credit::Copy(k) => pack(0, 2, k as usize),
+        Credit::New(k, i) => pack(0, 17, credit_value(k, i)),
+        Credit::Copy(k, i) => pack(0, 18, credit_value(k, i)),
         Credit::Refused(n) => pack(n, 0, 0),
     }
 }
@@ -76,7 +86,7 @@ pub extern "C" fn chz_withdraw(
     place_answer(meters::withdraw(used, euis, shorts, lasts, heards, meter))
 }
 
-// Credits a packet: new or a copy, and how many stations heard it; 24, 25, 21, 26.
+// Credits a packet: new or a copy, how many stations heard it, and the meter's row; 24, 25, 21, 26.
 #[no_mangle]
 pub extern "C" fn chz_uplink(
     used: &[u8],
@@ -86,7 +96,7 @@ pub extern "C" fn chz_uplink(
     heards: &mut [u64],
     meter: u64,
     counter: u32,
-    station: u8,
+    station: u64,
 ) -> u64
     ensures { λ r. ⌜ _≡_ {A = Told} (told r (columns (now (used .entry)) (now (euis .entry)) (now (shorts .entry)) (now (lasts .exit)) (now (heards .exit))))
         (credited (uplinkOn (columns (now (used .entry)) (now (euis .entry)) (now (shorts .entry)) (now (lasts .entry)) (now (heards .entry))) meter counter station)) ⌝ }

@@ -27,9 +27,9 @@ pub record Took (rows after : List Row) (x i : ℕ) (new : Row) : Type 0 where
   pub row : getD after i blank ≡ new
   pub taken : freeAt after ≡ i → ⊥
 
-not-above : (x a n m s : ℕ) → m ≤ n → hearOf (enrolled x a n) m s .answer ≡ credit.Refused 26
+not-above : (i x a n m s : ℕ) → m ≤ n → hearOf i (enrolled x a n) m s .answer ≡ credit.Refused 26
 unfolding hearOf
-not-above x a n m s g = simp (le-ltb n m g, and-false)
+not-above i x a n m s g = simp (le-ltb n m g, and-false)
 
 module _ (rows : List Row) (x a n : ℕ) where
   took : length rows ≤ meterAt rows x → freeAt rows < length rows → Took rows (set rows (freeAt rows) (enrolled x a n)) x (freeAt rows) (enrolled x a n)
@@ -60,7 +60,7 @@ module _ (rows : List Row) (x a n : ℕ) where
 
   -- the next uplink of the meter is judged by the row that the enrolment wrote
   module _ (i : ℕ) (accepted : enrolIn rows x a n .answer ≡ found.At i) (m s : ℕ) (station : s ≤ 63) where
-    pub first-uplink : uplinkIn (enrolIn rows x a n .rows) x m s .answer ≡ hearOf (enrolled x a n) m s .answer
+    pub first-uplink : uplinkIn (enrolIn rows x a n .rows) x m s .answer ≡ hearOf i (enrolled x a n) m s .answer
     first-uplink =
         let t = enrolled-at i accepted in
         let l : i < length (enrolIn rows x a n .rows) = rw (t .left, length-set rows i (enrolled x a n)) (t .within) in
@@ -69,4 +69,4 @@ module _ (rows : List Row) (x a n : ℕ) where
 
     -- "taking a late equal counter after enrolment for new" is an error: it is 26, as is every counter that is not above
     pub late-is-stale : m ≤ n → uplinkIn (enrolIn rows x a n .rows) x m s .answer ≡ credit.Refused 26
-    late-is-stale g = first-uplink ∙ not-above x a n m s g
+    late-is-stale g = first-uplink ∙ not-above i x a n m s g

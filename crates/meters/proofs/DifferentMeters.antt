@@ -63,12 +63,12 @@ module _ (rows : List Row) (x y : ℕ) (differ : x ≡ y → ⊥) where
   pub uplink-apart : (n s : ℕ) → Apart rows (uplinkIn rows x n s .rows) y
   uplink-apart n s =
       let r = getD rows (meterAt rows x) blank in
-      let keeps : isMeter y (hearOf r n s .row) ≡ isMeter y r
-      = ap₂ (λ (u w : ℕ). isMark u w y) (hear-keeps r n s (λ (z : Row). z .used) (λ m h. refl)) (hear-keeps r n s (λ (z : Row). z .eui) (λ m h. refl)) in
+      let keeps : isMeter y (hearOf (meterAt rows x) r n s .row) ≡ isMeter y r
+      = ap₂ (λ (u w : ℕ). isMark u w y) (hear-keeps (meterAt rows x) r n s (λ (z : Row). z .used) (λ m h. refl)) (hear-keeps (meterAt rows x) r n s (λ (z : Row). z .eui) (λ m h. refl)) in
       uplink-cases rows x n s (λ (l : Left Credit). Apart rows (l .rows) y)
       (λ l. same rows y)
       (λ l m. same rows y)
-      (λ l m. set-apart rows y (meterAt rows x) (hearOf r n s .row) m (not-y m) (keeps ∙ not-y m))
+      (λ l m. set-apart rows y (meterAt rows x) (hearOf (meterAt rows x) r n s .row) m (not-y m) (keeps ∙ not-y m))
 
 -- so y's answers stay what they were
 module _ (rows after : List Row) (y : ℕ) (a : Apart rows after y) where

@@ -181,22 +181,22 @@ joined-count h s l = by (hears h s) refl
 -- ---- the answer
 
 -- a packet that is not refused is answered with the count of the row's heard set, as it is afterwards
-pub answer-counts : (r : Row) (n s : ℕ) → creditRefusalOf (hearOf r n s .answer) ≡ 0 → hearersOf (hearOf r n s .answer) ≡ hearers (hearOf r n s .row .heard)
-answer-counts r n s =
-    hear-cases r n s (λ (h : Heard). creditRefusalOf (h .answer) ≡ 0 → hearersOf (h .answer) ≡ hearers (h .row .heard)) (λ e. refl) (λ e. refl) (λ e. absurd (omega arith))
+pub answer-counts : (i : ℕ) (r : Row) (n s : ℕ) → creditRefusalOf (hearOf i r n s .answer) ≡ 0 → hearersOf (hearOf i r n s .answer) ≡ hearers (hearOf i r n s .row .heard)
+answer-counts i r n s =
+    hear-cases i r n s (λ (h : Heard). creditRefusalOf (h .answer) ≡ 0 → hearersOf (h .answer) ≡ hearers (h .row .heard)) (λ e. refl) (λ e. refl) (λ e. absurd (omega arith))
 
 -- no uplink answers more than 64
-pub answer-at-most-64 : (c : Columns) (x n s : ℕ) → uplinkOn c x n s .value ≤ 64
+pub answer-at-most-64 : (c : Columns) (x n s : ℕ) → uplinkOn c x n s .hearers ≤ 64
 unfolding uplinkOn
 answer-at-most-64 c x n s = by (even c)
   where
-    packet : (r : Row) → hearersOf (hearOf r n s .answer) ≤ 64
-    packet r = hear-cases r n s (λ (h : Heard). hearersOf (h .answer) ≤ 64) (at-most-64 (alone s)) (at-most-64 (joined (r .heard) s)) (omega arith)
+    packet : (i : ℕ) (r : Row) → hearersOf (hearOf i r n s .answer) ≤ 64
+    packet i r = hear-cases i r n s (λ (h : Heard). hearersOf (h .answer) ≤ 64) (at-most-64 (alone s)) (at-most-64 (joined (r .heard) s)) (omega arith)
 
     call : (rows : List Row) → hearersOf (uplinkIn rows x n s .answer) ≤ 64
     call rows =
-        uplink-cases rows x n s (λ (l : Left Credit). hearersOf (l .answer) ≤ 64) (λ l. omega arith) (λ l m. omega arith) (λ l m. packet (getD rows (meterAt rows x) blank))
+        uplink-cases rows x n s (λ (l : Left Credit). hearersOf (l .answer) ≤ 64) (λ l. omega arith) (λ l m. omega arith) (λ l m. packet (meterAt rows x) (getD rows (meterAt rows x) blank))
 
-    by : (b : Bool) → cond b (toldCredit (uplinkIn (rowsOf c) x n s .answer) (columnsOf (uplinkIn (rowsOf c) x n s .rows))) (toldCredit (Refused 24) c) .value ≤ 64
+    by : (b : Bool) → cond b (toldCredit (uplinkIn (rowsOf c) x n s .answer) (columnsOf (uplinkIn (rowsOf c) x n s .rows))) (toldCredit (Refused 24) c) .hearers ≤ 64
     by true = call (rowsOf c)
     by false = omega arith

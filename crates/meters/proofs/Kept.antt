@@ -3,6 +3,7 @@ use Prim.Native.Nat.{ℕ}
 use mathlib.Core.Path.{_≡_, refl, ap, _∙_}
 use mathlib.Core.Bool.{Bool, true, false, cond}
 use mathlib.Core.List.{List}
+use native.Mathlib.Omega.{arith}
 use lib.ListN.{getD, set}
 use lib.Seq.{getD-set-other, set-getD}
 use Rattle.meters.specs.declared.Row.{Row}
@@ -13,7 +14,7 @@ use Rattle.meters.specs.declared.Credit.{Credit}
 use Rattle.meters.specs.declared.Credit.the-variants as credit
 use Rattle.meters.specs.Rows.{enrolled, withdrawn, hearOf}
 use Rattle.meters.specs.Table.{Left, blank, meterAt, freeAt, heardIn, findIn, enrolIn, withdrawIn, uplinkIn}
-use Rattle.meters.specs.Answers.{refusalOf, creditRefusalOf}
+use Rattle.meters.specs.Answers.{refusalOf, creditRefusalOf, creditRowOf}
 use Rattle.meters.specs.Columns.{Columns, rowsOf, columnsOf, even, Done, toldPlace, toldCredit, onRows, findOn, enrolOn, withdrawOn, uplinkOn}
 use Rattle.meters.proofs.Held.{true-even, columns-back}
 use Rattle.meters.proofs.Rules.{withdraw-cases, enrol-cases, uplink-cases, hear-cases}
@@ -40,6 +41,17 @@ module _ (rows : List Row) (x k : ℕ) where
       (λ l m. refl)
       (λ l m. getD-set-other rows (meterAt rows x) k (heardIn rows x n s .row) blank d)
 
+-- the row that a credited packet may change is the row in its answer
+module _ (rows : List Row) (x n s : ℕ) where
+  pub answered-row : creditRefusalOf (uplinkIn rows x n s .answer) ≡ 0 → creditRowOf (uplinkIn rows x n s .answer) ≡ meterAt rows x
+  answered-row = uplink-cases rows x n s (λ (l : Left Credit). Named (l .answer)) (λ l e. absurd (omega arith)) (λ l m e. absurd (omega arith)) (λ l m. packet)
+    where
+      Named : Credit → Type 0
+      Named a = creditRefusalOf a ≡ 0 → creditRowOf a ≡ meterAt rows x
+
+      packet : Named (heardIn rows x n s .answer)
+      packet = hear-cases (meterAt rows x) (getD rows (meterAt rows x) blank) n s (λ (h : Heard). Named (h .answer)) (λ e. refl) (λ e. refl) (λ e. absurd (omega arith))
+
 -- ---- a refused call changes nothing
 -- on rows: where document 01's number of the answer is not 0, the rows are those that came in
 abbrev pub Refuses : {A : Type 0} → (A → ℕ) → List Row → Left A → Type 0
@@ -57,15 +69,15 @@ module _ (rows : List Row) (x : ℕ) where
   enrol-refuses a n = enrol-cases rows x a n (Refuses refusalOf rows) (λ l h. refl) (λ l m h. refl) (λ l m h. absurd (h refl))
 
   -- a stale packet leaves its row
-  stale-row : (r : Row) (n s : ℕ) → (creditRefusalOf (hearOf r n s .answer) ≡ 0 → ⊥) → hearOf r n s .row ≡ r
-  stale-row r n s = hear-cases r n s (λ (h : Heard). (creditRefusalOf (h .answer) ≡ 0 → ⊥) → h .row ≡ r) (λ h. absurd (h refl)) (λ h. absurd (h refl)) (λ h. refl)
+  stale-row : (i : ℕ) (r : Row) (n s : ℕ) → (creditRefusalOf (hearOf i r n s .answer) ≡ 0 → ⊥) → hearOf i r n s .row ≡ r
+  stale-row i r n s = hear-cases i r n s (λ (h : Heard). (creditRefusalOf (h .answer) ≡ 0 → ⊥) → h .row ≡ r) (λ h. absurd (h refl)) (λ h. absurd (h refl)) (λ h. refl)
 
   uplink-refuses : (n s : ℕ) → Refuses creditRefusalOf rows (uplinkIn rows x n s)
   uplink-refuses n s =
       uplink-cases rows x n s (Refuses creditRefusalOf rows)
       (λ l h. refl)
       (λ l m h. refl)
-      (λ l m h. ap (set rows (meterAt rows x)) (stale-row (getD rows (meterAt rows x) blank) n s h) ∙ set-getD rows (meterAt rows x) blank)
+      (λ l m h. ap (set rows (meterAt rows x)) (stale-row (meterAt rows x) (getD rows (meterAt rows x) blank) n s h) ∙ set-getD rows (meterAt rows x) blank)
 
 on-columns : {A : Type 0} (number : A → ℕ) (told : A → Columns → Done A) (unequal : A) (call : List Row → Left A) (c : Columns)
     → ((a : A) (d : Columns) → told a d .refusal ≡ number a) → ((a : A) (d : Columns) → told a d .columns ≡ d)

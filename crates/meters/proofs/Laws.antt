@@ -49,17 +49,17 @@ missed r b p q = sym p ∙ q
 pub ruleset scans = (place-here, place-none, free-here, free-none)
 
 -- ---- the row's step
-module _ (r : Row) (n s : ℕ) (g : s < 64) where
-  pub hear-new : r .last < n → record { row = heardAs r n ((1 * 2 ^ s) % 2 ^ 64); answer = credit.New 1 } ≡ hearOf r n s
+module _ (i : ℕ) (r : Row) (n s : ℕ) (g : s < 64) where
+  pub hear-new : r .last < n → record { row = heardAs r n ((1 * 2 ^ s) % 2 ^ 64); answer = credit.New 1 i } ≡ hearOf i r n s
   unfolding hearOf
   hear-new h = simp (lt-ltb _ _ h, shifted s g, alone-hearers s g)
 
   pub hear-copy : r .heard < 2 ^ 64 → n ≤ r .last → eqb n (r .last) && not (eqb (r .heard) 0) ≡ true
-      → record { row = heardAs r (r .last) (bitOr (r .heard) ((1 * 2 ^ s) % 2 ^ 64)); answer = credit.Copy (ones (bitOr (r .heard) ((1 * 2 ^ s) % 2 ^ 64))) } ≡ hearOf r n s
+      → record { row = heardAs r (r .last) (bitOr (r .heard) ((1 * 2 ^ s) % 2 ^ 64)); answer = credit.Copy (ones (bitOr (r .heard) ((1 * 2 ^ s) % 2 ^ 64))) i } ≡ hearOf i r n s
   unfolding hearOf
   hear-copy f h e = simp (le-ltb (r .last) n h, e, shifted s g, or-joined (r .heard) s, ones-hearers (joined (r .heard) s) (joined-lt (r .heard) s f g))
 
-  pub hear-stale : n ≤ r .last → eqb n (r .last) && not (eqb (r .heard) 0) ≡ false → record { row = r; answer = credit.Refused 26 } ≡ hearOf r n s
+  pub hear-stale : n ≤ r .last → eqb n (r .last) && not (eqb (r .heard) 0) ≡ false → record { row = r; answer = credit.Refused 26 } ≡ hearOf i r n s
   unfolding hearOf
   hear-stale h e = simp (le-ltb (r .last) n h, e)
 
@@ -167,24 +167,24 @@ module _ (u e s l h : List ℕ) (t : Even (columns u e s l h)) where
 
     module _ (n k : ℕ) (q : k ≤ 63) where
       -- a column that no packet changes
-      kept : (w : List ℕ) (g : Row → ℕ) → ((m b : ℕ) → g (heardAs (rowAt c i) m b) ≡ g (rowAt c i)) → g (rowAt c i) ≡ getD w i 0 → set w i (g (hearOf (rowAt c i) n k .row)) ≡ w
-      kept w g y z = ap (set w i) (hear-keeps (rowAt c i) n k g y ∙ z) ∙ set-getD w i 0
+      kept : (w : List ℕ) (g : Row → ℕ) → ((m b : ℕ) → g (heardAs (rowAt c i) m b) ≡ g (rowAt c i)) → g (rowAt c i) ≡ getD w i 0 → set w i (g (hearOf i (rowAt c i) n k .row)) ≡ w
+      kept w g y z = ap (set w i) (hear-keeps i (rowAt c i) n k g y ∙ z) ∙ set-getD w i 0
 
-      uplink-by : toldCredit (hearOf (rowAt c i) n k .answer) (columns u e s (set l i (hearOf (rowAt c i) n k .row .last)) (set h i (hearOf (rowAt c i) n k .row .heard))) ≡ uplinkOn c x n k
+      uplink-by : toldCredit (hearOf i (rowAt c i) n k .answer) (columns u e s (set l i (hearOf i (rowAt c i) n k .row .last)) (set h i (hearOf i (rowAt c i) n k .row .heard))) ≡ uplinkOn c x n k
       unfolding uplinkOn
       uplink-by =
-          on-even toldCredit (credit.Refused 24) (λ (rows : List Row). uplinkIn rows x n k) c t (hearOf (rowAt c i) n k .answer) (set (rowsOf c) i (hearOf (rowAt c i) n k .row)) _
+          on-even toldCredit (credit.Refused 24) (λ (rows : List Row). uplinkIn rows x n k) c t (hearOf i (rowAt c i) n k .answer) (set (rowsOf c) i (hearOf i (rowAt c i) n k .row)) _
           (uplink-at (rowsOf c) x n k q there
-          ∙ ap (λ (j : ℕ). left (hearOf (getD (rowsOf c) j blank) n k .answer) (set (rowsOf c) j (hearOf (getD (rowsOf c) j blank) n k .row))) (sym at)
-          ∙ ap (λ (r : Row). left (hearOf r n k .answer) (set (rowsOf c) i (hearOf r n k .row))) (row-at c i f))
-          (columns-set c t i (hearOf (rowAt c i) n k .row)
+          ∙ ap (λ (j : ℕ). left (hearOf j (getD (rowsOf c) j blank) n k .answer) (set (rowsOf c) j (hearOf j (getD (rowsOf c) j blank) n k .row))) (sym at)
+          ∙ ap (λ (r : Row). left (hearOf i r n k .answer) (set (rowsOf c) i (hearOf i r n k .row))) (row-at c i f))
+          (columns-set c t i (hearOf i (rowAt c i) n k .row)
           ∙ columns-are (kept u (λ (r : Row). r .used) (λ m b. refl) refl) (kept e (λ (r : Row). r .eui) (λ m b. refl) refl) (kept s (λ (r : Row). r .short) (λ m b. refl) refl) refl refl)
 
-      pub uplink-done : (r : Row) (y : Heard) (l′ h′ : List ℕ) → r ≡ rowAt c i → y ≡ hearOf r n k → l′ ≡ set l i (y .row .last) → h′ ≡ set h i (y .row .heard)
+      pub uplink-done : (r : Row) (y : Heard) (l′ h′ : List ℕ) → r ≡ rowAt c i → y ≡ hearOf i r n k → l′ ≡ set l i (y .row .last) → h′ ≡ set h i (y .row .heard)
           → toldCredit (y .answer) (columns u e s l′ h′) ≡ uplinkOn c x n k
       uplink-done r y l′ h′ v m p w =
           ap₂ (λ (a b : List ℕ). toldCredit (y .answer) (columns u e s a b)) p w
-          ∙ ap (λ (z : Heard). toldCredit (z .answer) (columns u e s (set l i (z .row .last)) (set h i (z .row .heard)))) (m ∙ ap (λ (o : Row). hearOf o n k) v)
+          ∙ ap (λ (z : Heard). toldCredit (z .answer) (columns u e s (set l i (z .row .last)) (set h i (z .row .heard)))) (m ∙ ap (λ (o : Row). hearOf i o n k) v)
           ∙ uplink-by
 
 pub ruleset calls = (find-21, find-done, enrol-22, enrol-23, enrol-done, withdraw-21, withdraw-done, uplink-25, uplink-21, uplink-done)

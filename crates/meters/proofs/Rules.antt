@@ -102,19 +102,19 @@ module _ (rows : List Row) (x : ℕ) where
           rw (uplink-at rows x n s l m) (there l m)
 
 -- a packet is new, a copy or stale
-pub hear-cases : (r : Row) (n s : ℕ) (P : Heard → Type 0) → P (credited credit.New (heardAs r n (alone s))) → P (credited credit.Copy (heardAs r (r .last) (joined (r .heard) s)))
-    → P (record { row = r; answer = credit.Refused 26 }) → P (hearOf r n s)
+pub hear-cases : (i : ℕ) (r : Row) (n s : ℕ) (P : Heard → Type 0) → P (credited credit.New i (heardAs r n (alone s))) → P (credited credit.Copy i (heardAs r (r .last) (joined (r .heard) s)))
+    → P (record { row = r; answer = credit.Refused 26 }) → P (hearOf i r n s)
 unfolding hearOf
-hear-cases r n s P new copy stale = by (ltb (r .last) n) (eqb n (r .last) && not (eqb (r .heard) nobody))
+hear-cases i r n s P new copy stale = by (ltb (r .last) n) (eqb n (r .last) && not (eqb (r .heard) nobody))
   where
-    by : (a b : Bool) → P (cond a (credited credit.New (heardAs r n (alone s))) (cond b (credited credit.Copy (heardAs r (r .last) (joined (r .heard) s))) (record { row = r; answer = credit.Refused 26 })))
+    by : (a b : Bool) → P (cond a (credited credit.New i (heardAs r n (alone s))) (cond b (credited credit.Copy i (heardAs r (r .last) (joined (r .heard) s))) (record { row = r; answer = credit.Refused 26 })))
     by true b = new
     by false true = copy
     by false false = stale
 
 -- it leaves the row's mark, EUI and short address
-pub hear-keeps : (r : Row) (n s : ℕ) (g : Row → ℕ) → ((m h : ℕ) → g (heardAs r m h) ≡ g r) → g (hearOf r n s .row) ≡ g r
-hear-keeps r n s g kept = hear-cases r n s (λ (h : Heard). g (h .row) ≡ g r) (kept n (alone s)) (kept (r .last) (joined (r .heard) s)) refl
+pub hear-keeps : (i : ℕ) (r : Row) (n s : ℕ) (g : Row → ℕ) → ((m h : ℕ) → g (heardAs r m h) ≡ g r) → g (hearOf i r n s .row) ≡ g r
+hear-keeps i r n s g kept = hear-cases i r n s (λ (h : Heard). g (h .row) ≡ g r) (kept n (alone s)) (kept (r .last) (joined (r .heard) s)) refl
 
 -- ---- a call's answer
 module _ (rows : List Row) (x : ℕ) where

@@ -28,7 +28,7 @@ abbrev pub bare : Columns → Columns
 bare c = columns (c .used) (c .euis) (map (λ (s : ℕ). 0) (c .shorts)) (c .lasts) (c .heards)
 
 abbrev pub bareDone : {A : Type 0} → Done A → Done A
-bareDone d = record { answer = d .answer; refusal = d .refusal; value = d .value; columns = bare (d .columns) }
+bareDone d = record { answer = d .answer; refusal = d .refusal; row = d .row; hearers = d .hearers; columns = bare (d .columns) }
 
 -- ---- on rows
 abbrev bareLeft : {A : Type 0} → Left A → Left A
@@ -37,14 +37,14 @@ bareLeft l = left (l .answer) (map bareRow (l .rows))
 first-bare : (t : Row → Bool) → ((r : Row) → t (bareRow r) ≡ t r) → (rows : List Row) → first t (map bareRow rows) ≡ first t rows
 first-bare t e rows = first-same t bareRow (λ (r : Row). r) e rows ∙ ap (first t) (map-id rows)
 
-bare-hear : (r : Row) (n s : ℕ) → hearOf (bareRow r) n s ≡ record { row = bareRow (hearOf r n s .row); answer = hearOf r n s .answer }
+bare-hear : (i : ℕ) (r : Row) (n s : ℕ) → hearOf i (bareRow r) n s ≡ record { row = bareRow (hearOf i r n s .row); answer = hearOf i r n s .answer }
 unfolding hearOf
-bare-hear r n s = by (ltb (r .last) n) (eqb n (r .last) && not (eqb (r .heard) 0))
+bare-hear i r n s = by (ltb (r .last) n) (eqb n (r .last) && not (eqb (r .heard) 0))
   where
     packet : Bool → Bool → Row → Heard
     packet p q y =
-        cond p (record { row = heardAs y n (alone s); answer = credit.New (hearers (alone s)) })
-        (cond q (record { row = heardAs y (r .last) (joined (r .heard) s); answer = credit.Copy (hearers (joined (r .heard) s)) }) (record { row = y; answer = credit.Refused 26 }))
+        cond p (record { row = heardAs y n (alone s); answer = credit.New (hearers (alone s)) i })
+        (cond q (record { row = heardAs y (r .last) (joined (r .heard) s); answer = credit.Copy (hearers (joined (r .heard) s)) i }) (record { row = y; answer = credit.Refused 26 }))
 
     by : (p q : Bool) → packet p q (bareRow r) ≡ record { row = bareRow (packet p q r .row); answer = packet p q r .answer }
     by true q = refl
@@ -100,7 +100,7 @@ module _ (rows : List Row) (x : ℕ) where
       ∙ by (ltb 63 s)
     where
       call : List Row → ℕ → Row → Left Credit
-      call l i r = cond (ltb 63 s) (left (credit.Refused 25) l) (changed l i (hearOf r n s .row) (hearOf r n s .answer) (credit.Refused 21))
+      call l i r = cond (ltb 63 s) (left (credit.Refused 25) l) (changed l i (hearOf i r n s .row) (hearOf i r n s .answer) (credit.Refused 21))
 
       i : ℕ
       i = meterAt rows x
@@ -108,10 +108,10 @@ module _ (rows : List Row) (x : ℕ) where
       r : Row
       r = getD rows i blank
 
-      by : (b : Bool) → cond b (left (credit.Refused 25) (map bareRow rows)) (changed (map bareRow rows) i (hearOf (bareRow r) n s .row) (hearOf (bareRow r) n s .answer) (credit.Refused 21))
-          ≡ bareLeft (cond b (left (credit.Refused 25) rows) (changed rows i (hearOf r n s .row) (hearOf r n s .answer) (credit.Refused 21)))
+      by : (b : Bool) → cond b (left (credit.Refused 25) (map bareRow rows)) (changed (map bareRow rows) i (hearOf i (bareRow r) n s .row) (hearOf i (bareRow r) n s .answer) (credit.Refused 21))
+          ≡ bareLeft (cond b (left (credit.Refused 25) rows) (changed rows i (hearOf i r n s .row) (hearOf i r n s .answer) (credit.Refused 21)))
       by true = refl
-      by false = ap (λ (h : Heard). changed (map bareRow rows) i (h .row) (h .answer) (credit.Refused 21)) (bare-hear r n s) ∙ bare-changed rows i (hearOf r n s .row) (hearOf r n s .answer) (credit.Refused 21)
+      by false = ap (λ (h : Heard). changed (map bareRow rows) i (h .row) (h .answer) (credit.Refused 21)) (bare-hear i r n s) ∙ bare-changed rows i (hearOf i r n s .row) (hearOf i r n s .answer) (credit.Refused 21)
 
 -- ---- on columns
 zeros : (l : List ℕ) (i : ℕ) → _≡_ {A = ℕ} (getD (map (λ (s : ℕ). 0) l) i 0) 0

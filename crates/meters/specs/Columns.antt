@@ -11,7 +11,7 @@ use Rattle.meters.specs.declared.Found.the-variants as found
 use Rattle.meters.specs.declared.Credit.{Credit}
 use Rattle.meters.specs.declared.Credit.the-variants as credit
 use Rattle.meters.specs.Stations.{below}
-use Rattle.meters.specs.Answers.{refusalOf, rowOf, creditRefusalOf, hearersOf}
+use Rattle.meters.specs.Answers.{refusalOf, rowOf, creditRefusalOf, creditRowOf, hearersOf}
 use Rattle.meters.specs.Table.{Left, meterAt, freeAt, findIn, enrolIn, withdrawIn, uplinkIn}
 
 -- "used, EUI, short address, last counter, heard"
@@ -60,18 +60,19 @@ pub record Even (c : Columns) : Type 0 where
 abbrev pub even : Columns → Bool
 even c = sameLengths (length (c .used)) (length (c .euis)) (length (c .shorts)) (length (c .lasts)) (length (c .heards))
 
--- what a call's statement settles: the answer, its number and value in document 01, and the five columns afterwards
+-- what a call's statement settles: the answer, its number and values in document 01, and the five columns afterwards
 pub record Done (A : Type 0) : Type 0 where
   pub answer : A
   pub refusal : ℕ
-  pub value : ℕ
+  pub row : ℕ
+  pub hearers : ℕ
   pub columns : Columns
 
 abbrev pub toldPlace : Found → Columns → Done Found
-toldPlace r c = record { answer = r; refusal = refusalOf r; value = rowOf r; columns = c }
+toldPlace r c = record { answer = r; refusal = refusalOf r; row = rowOf r; hearers = 0; columns = c }
 
 abbrev pub toldCredit : Credit → Columns → Done Credit
-toldCredit r c = record { answer = r; refusal = creditRefusalOf r; value = hearersOf r; columns = c }
+toldCredit r c = record { answer = r; refusal = creditRefusalOf r; row = creditRowOf r; hearers = hearersOf r; columns = c }
 
 -- "Test 24 first": a call on columns is the call on their rows
 abbrev pub onRows : {A : Type 0} → (A → Columns → Done A) → A → (List Row → Left A) → Columns → Done A

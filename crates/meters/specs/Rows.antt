@@ -31,15 +31,15 @@ withdrawn r = record { used = 0; eui = r .eui; short = r .short; last = r .last;
 abbrev pub heardAs : Row → ℕ → ℕ → Row
 heardAs r counter heard = record { used = r .used; eui = r .eui; short = r .short; last = counter; heard = heard }
 
--- new or a copy, and how many stations are in the row's heard set
-abbrev pub credited : (ℕ → Credit) → Row → Heard
-credited kind r = record { row = r; answer = kind (hearers (r .heard)) }
+-- new or a copy, with the count of the row's heard set and the row's number i
+abbrev pub credited : (ℕ → ℕ → Credit) → ℕ → Row → Heard
+credited kind i r = record { row = r; answer = kind (hearers (r .heard)) i }
 
 -- "counter above last: new, last set, heard is this station only; equal with heard not empty: copy, station added; else 26"
-unfoldable pub hearOf : Row → ℕ → ℕ → Heard
-hearOf r counter station =
+unfoldable pub hearOf : ℕ → Row → ℕ → ℕ → Heard
+hearOf i r counter station =
     cond (ltb (r .last) counter)
-    (credited New (heardAs r counter (alone station)))
+    (credited New i (heardAs r counter (alone station)))
     (cond (eqb counter (r .last) && not (eqb (r .heard) nobody))
-    (credited Copy (heardAs r (r .last) (joined (r .heard) station)))
+    (credited Copy i (heardAs r (r .last) (joined (r .heard) station)))
     (record { row = r; answer = Refused 26 }))

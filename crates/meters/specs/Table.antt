@@ -58,7 +58,7 @@ withdrawIn rows eui = changed rows (meterAt rows eui) (withdrawn (getD rows (met
 
 -- what an uplink makes of the meter's row
 abbrev pub heardIn : List Row → ℕ → ℕ → ℕ → Heard
-heardIn rows eui counter station = hearOf (getD rows (meterAt rows eui) blank) counter station
+heardIn rows eui counter station = hearOf (meterAt rows eui) (getD rows (meterAt rows eui) blank) counter station
 
 -- 25, then 21, else the row's rule
 unfoldable pub uplinkIn : List Row → ℕ → ℕ → ℕ → Left Credit

@@ -28,10 +28,10 @@ pub enum Found {
     Refused(u8),
 }
 
-// A new packet or a copy, with the number of stations that heard it so far; or the number of the refusal.
+// A new packet or a copy, with the number of stations that heard it so far and the meter's row; or the number of the refusal.
 pub enum Credit {
-    New(u32),
-    Copy(u32),
+    New(u32, usize),
+    Copy(u32, usize),
     Refused(u8),
 }
 
@@ -41,10 +41,10 @@ pub struct Heard {
     pub answer: Credit,
 }
 
-// What the packet with this counter, heard by this station, makes of the meter's row.
-fn hear(row: Row, counter: u32, station: u8) -> Heard
+// What the packet with this counter, heard by this station, makes of the meter's row, which is row i.
+fn hear(i: usize, row: Row, counter: u32, station: u64) -> Heard
     requires { ⌜ station < 64 ⌝ }
-    ensures { λ r. ⌜ r ≡ hearOf row counter station ⌝ }
+    ensures { λ r. ⌜ r ≡ hearOf i row counter station ⌝ }
 {
     let bit = 1u64 << station;
     let mut next = row;
@@ -53,7 +53,7 @@ fn hear(row: Row, counter: u32, station: u8) -> Heard
         next.heard = bit;
         return Heard {
             row: next,
-            answer: Credit::New(1),
+            answer: Credit::New(1, i),
         };
     }
     if (counter == row.last) & (row.heard != 0) {
@@ -61,7 +61,7 @@ fn hear(row: Row, counter: u32, station: u8) -> Heard
         next.heard = heard;
         return Heard {
             row: next,
-            answer: Credit::Copy(u64::count_ones(heard)),
+            answer: Credit::Copy(u64::count_ones(heard), i),
         };
     }
     Heard {
@@ -195,7 +195,7 @@ pub fn uplink(
     heards: &mut [u64],
     eui: u64,
     counter: u32,
-    station: u8,
+    station: u64,
 ) -> Credit
     ensures { λ r. ⌜ toldCredit r (columns (now (used .entry)) (now (euis .entry)) (now (shorts .entry)) (now (lasts .exit)) (now (heards .exit)))
         ≡ uplinkOn (columns (now (used .entry)) (now (euis .entry)) (now (shorts .entry)) (now (lasts .entry)) (now (heards .entry))) eui counter station ⌝ }
@@ -221,7 +221,7 @@ fn uplink_in(
     heards: &mut [u64],
     eui: u64,
     counter: u32,
-    station: u8,
+    station: u64,
 ) -> Credit
     requires { ⌜ Even (columns (now used) (now euis) (now shorts) (now lasts) (now heards)) ⌝ }
     ensures { λ r. ⌜ toldCredit r (columns (now (used .entry)) (now (euis .entry)) (now (shorts .entry)) (now (lasts .exit)) (now (heards .exit)))
@@ -235,7 +235,7 @@ fn uplink_in(
         return Credit::Refused(21);
     }
     let row = row_at(used, euis, shorts, lasts, heards, i);
-    let told = hear(row, counter, station);
+    let told = hear(i, row, counter, station);
     let next = told.row;
     put_heard(lasts, heards, i, next);
     told.answer

@@ -3,35 +3,27 @@ use borrow.Author.Needs.{needs}
 use Rattle.chozukpima.proofs.table.chz_enrol.Statement.{statement}
 use Rattle.chozukpima.proofs.table.chz_enrol.Tie as tie
 
--- src/table.rt:60:18
 enrol-requires : tie.Need-enrol-requires
 enrol-requires c κs = search needs
 
--- src/table.rt:60:5
 place-answer-requires : tie.Need-place-answer-requires
 place-answer-requires c κs = search needs
 
--- src/table.rt:46:1
 same-length : tie.Need-same-length
 same-length c = search needs
 
--- src/table.rt:46:1
 same-length-2 : tie.Need-same-length-2
 same-length-2 c = search needs
 
--- src/table.rt:46:1
 same-length-3 : tie.Need-same-length-3
 same-length-3 c = search needs
 
--- src/table.rt:46:1
 same-length-4 : tie.Need-same-length-4
 same-length-4 c = search needs
 
--- src/table.rt:46:1
 same-length-5 : tie.Need-same-length-5
 same-length-5 c = search needs
 
--- src/table.rt:46:1
 returns : tie.Need-returns
 returns c = search (answers, needs)
 

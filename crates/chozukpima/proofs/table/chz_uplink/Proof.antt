@@ -3,23 +3,18 @@ use borrow.Author.Needs.{needs}
 use Rattle.chozukpima.proofs.table.chz_uplink.Statement.{statement}
 use Rattle.chozukpima.proofs.table.chz_uplink.Tie as tie
 
--- src/table.rt:96:19
 uplink-requires : tie.Need-uplink-requires
 uplink-requires c κs = search needs
 
--- src/table.rt:96:5
 credit-answer-requires : tie.Need-credit-answer-requires
 credit-answer-requires c κs = search needs
 
--- src/table.rt:82:1
 same-length : tie.Need-same-length
 same-length c = search needs
 
--- src/table.rt:82:1
 same-length-2 : tie.Need-same-length-2
 same-length-2 c = search needs
 
--- src/table.rt:82:1
 returns : tie.Need-returns
 returns c = search (answers, needs)
 

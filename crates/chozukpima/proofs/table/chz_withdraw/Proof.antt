@@ -3,19 +3,15 @@ use borrow.Author.Needs.{needs}
 use Rattle.chozukpima.proofs.table.chz_withdraw.Statement.{statement}
 use Rattle.chozukpima.proofs.table.chz_withdraw.Tie as tie
 
--- src/table.rt:78:18
 withdraw-requires : tie.Need-withdraw-requires
 withdraw-requires c κs = search needs
 
--- src/table.rt:78:5
 place-answer-requires : tie.Need-place-answer-requires
 place-answer-requires c κs = search needs
 
--- src/table.rt:66:1
 same-length : tie.Need-same-length
 same-length c = search needs
 
--- src/table.rt:66:1
 returns : tie.Need-returns
 returns c = search (answers, needs)
 

@@ -3,27 +3,21 @@ use borrow.Author.Needs.{needs}
 use Rattle.chozukpima.proofs.table.place_answer.Statement.{statement}
 use Rattle.chozukpima.proofs.table.place_answer.Tie as tie
 
--- src/table.rt:14:19
 enum-known-f : tie.Need-enum-known-f
 enum-known-f c = search needs
 
--- src/table.rt:14:25
 pack-requires : tie.Need-pack-requires
 pack-requires c κs = search needs
 
--- src/table.rt:15:24
 enum-known-f-2 : tie.Need-enum-known-f-2
 enum-known-f-2 c = search needs
 
--- src/table.rt:15:30
 pack-requires-2 : tie.Need-pack-requires-2
 pack-requires-2 c κs = search needs
 
--- src/table.rt:10:1
 returns : tie.Need-returns
 returns c = search (answers, needs)
 
--- src/table.rt:10:1
 returns-2 : tie.Need-returns-2
 returns-2 c = search (answers, needs)
 
