@@ -36,7 +36,7 @@ module _ (f : Framed) (r k : ℕ) where
 
 module _ (w : Walked) (r k : ℕ) where
   pub form-whole : w ≡ walked.Whole k → r ≡ packed 0 0 k → r ≡ formAnswer w
-  form-whole e p = p ∙ ap formAnswer (sym e)
+  form-whole e p = let z : k ≡ k + 0 = omega arith in p ∙ ap (packed 0 0) z ∙ ap formAnswer (sym e)
 
   pub form-refused : (p : ℕ) → w ≡ walked.Refused k p → r ≡ packed k 0 p → r ≡ formAnswer w
   form-refused p e q = q ∙ ap formAnswer (sym e)

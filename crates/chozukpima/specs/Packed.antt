@@ -4,7 +4,7 @@ use Prim.Native.Nat.{ℕ, _+_, _*_}
 use lib.Dec.{leb}
 use Rattle.octets.specs.Choice.{either}
 use Rattle.element.specs.declared.Walked.{Walked}
-use Rattle.element.specs.declared.Walked.the-variants as walked
+use Rattle.element.specs.Form as Form
 use Rattle.frame.specs.declared.Framed.{Framed}
 use Rattle.frame.specs.Frame.{refusalOf, usedOf}
 use Rattle.meters.specs.declared.Found.{Found}
@@ -28,9 +28,9 @@ refusedWith n = packed n 0 0
 abbrev pub frameAnswer : Framed → ℕ
 frameAnswer f = packed (refusalOf f) 0 (usedOf f)
 
+-- the count of elements, or the place of a break: where one is said the other is 0
 abbrev pub formAnswer : Walked → ℕ
-formAnswer (walked.Whole n) = packed 0 0 n
-formAnswer (walked.Refused k p) = packed k 0 p
+formAnswer w = packed (Form.refusalOf w) 0 (Form.elementsOf w + Form.placeOf w)
 
 abbrev pub placeAnswer : Done Found → ℕ
 placeAnswer d = packed (d .refusal) 0 (d .row)
