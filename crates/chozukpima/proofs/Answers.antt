@@ -39,7 +39,7 @@ module _ (w : Walked) (r k : ℕ) where
   form-whole e p = let z : k ≡ k + 0 = omega arith in p ∙ ap (packed 0 0) z ∙ ap formAnswer (sym e)
 
   pub form-refused : (p : ℕ) → w ≡ walked.Refused k p → r ≡ packed k 0 p → r ≡ formAnswer w
-  form-refused p e q = q ∙ ap formAnswer (sym e)
+  form-refused p e q = let z : p ≡ 0 + p = omega arith in q ∙ ap (packed k 0) z ∙ ap formAnswer (sym e)
 
 module _ (f : Found) (r k : ℕ) where
   pub place-found : f ≡ found.At k → r ≡ packed 0 0 k → r ≡ packed (refusalOf f) 0 (rowOf f)
