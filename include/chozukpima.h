@@ -204,7 +204,7 @@ typedef struct chz_message {
 } chz_message;
 
 /* A session with one base station. All zeros is a new one. The host stores it after every call that changes it, and looks, but
- * only the calls change it. */
+ * only the calls change it. A state over 2, a stored over 1 or a reserved byte other than 0 make it no session (15). */
 typedef struct chz_session {
     uint64_t bs_eui;
     int64_t highest; /* highest station ID known */
@@ -265,14 +265,14 @@ uint64_t chz_write(const uint8_t *message, size_t message_len, uint8_t *room, si
 
 /* A message arrives from the station: what happened, and the value is how many bytes of reply stand in the room (0: none).
  * uuid is 16 fresh bytes, used where a session begins; sign is the 4 bytes for detRsp; they must not overlap. Refusals in this
- * order: while waiting 15, 17, 18, 16, 20; while connecting 15, 17; while open 15, 17, 18, 19, 20. 15 is a session that no call
- * left, a record outside its ranges or a buffer of a wrong length. */
+ * order: while waiting 15, 17, 18, 16, 20; while connecting 15, 17; while open 15, 17, 18, 19, 20. 15 is bytes that are no
+ * session, a record outside its ranges or a buffer of a wrong length. */
 uint64_t chz_arrive(uint8_t *session, size_t session_len, const uint8_t *message, size_t message_len, uint64_t sc_eui,
                     const uint8_t *uuid, size_t uuid_len, const uint8_t *sign, size_t sign_len, uint8_t *room, size_t room_len);
 
 /* The centre starts ping, status, attPrp or detPrp: the value is how many bytes stand in the room, under the ID issued
- * (session.lowest), whatever op_id was handed in. Refusals 17, 18, 19, 15, 20; a session that no call left or a buffer of a
- * wrong length is 15 before these. */
+ * (session.lowest), whatever op_id was handed in. Refusals 17, 18, 19, 15, 20; bytes that are no session or a buffer of a wrong
+ * length are 15 before these. */
 uint64_t chz_begin(uint8_t *session, size_t session_len, const uint8_t *message, size_t message_len, uint8_t *room, size_t room_len);
 
 /* The connection is lost: the session waits, to be resumed. A session that a host loads after a restart goes through this call

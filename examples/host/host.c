@@ -78,7 +78,8 @@ void host_lost(unsigned number)
     s->input_len = 0;
     s->resumed = s->unsettled = false;
     uint64_t answer = chz_session_lost(&s->session);
-    printf("%u: connection lost, %s\n", number, chz_step_name(chz_happened(answer)));
+    const char *step = chz_refused(answer) ? "ALARM, this is no session" : chz_step_name(chz_happened(answer));
+    printf("%u: connection lost, %s\n", number, step);
 }
 
 static void close_connection(unsigned number)
@@ -147,10 +148,8 @@ static uint64_t take_step(unsigned number, const chz_message *m, uint8_t *room)
     uint64_t answer = chz_session_arrive(&s->session, m, centre_eui, uuid, sign, room, CHZ_ROOM);
     bool known = chz_refused(answer) == CHZ_ID_OUT_OF_ORDER && m->op_id > 0;
     if (o && s->resumed && known) return answer_again(s, m, o->rsp, sign, room);
-    if (m->command == CHZ_CON && !chz_refused(answer)) {
-        s->resumed = s->unsettled = chz_happened(answer) == CHZ_RESUMED;
-        s->again = 0;
-    }
+    if (m->command == CHZ_CON) s->resumed = chz_happened(answer) == CHZ_RESUMED;
+    if (chz_happened(answer) == CHZ_OPENED) s->unsettled = s->resumed, s->again = 0;
     return answer;
 }
 
@@ -198,8 +197,8 @@ static bool take_back(unsigned number, const chz_session *before, size_t row)
     return false;
 }
 
-/* One message. False: the connection is closed. With threads, the table's lock is held from before credit until the change is
- * stored or taken back. */
+/* One message. False: the connection is closed. With threads, the station's lock is held all the way, the table's from before
+ * credit until the change is stored or taken back. */
 static bool take_message(unsigned number, const uint8_t *payload, size_t len)
 {
     struct station *s = &host_stations[number];
