@@ -19,7 +19,7 @@ typedef uint64_t call_frame(const uint8_t *bytes, size_t bytes_len);
 #define UPLINK_COLUMNS                                                                                                     \
     const uint8_t *used, size_t used_len, const uint64_t *eui, size_t eui_len, const uint16_t *sh_addr, size_t sh_addr_len, \
         uint32_t *last, size_t last_len, uint64_t *heard, size_t heard_len
-typedef uint64_t call_uplink(UPLINK_COLUMNS, uint64_t meter, uint32_t counter, uint8_t station);
+typedef uint64_t call_uplink(UPLINK_COLUMNS, uint64_t meter, uint32_t counter, uint64_t station);
 typedef uint64_t call_arrive(uint8_t *session, size_t session_len, const uint8_t *message, size_t message_len, uint64_t sc_eui,
                              const uint8_t *uuid, size_t uuid_len, const uint8_t *sign, size_t sign_len, uint8_t *room,
                              size_t room_len);

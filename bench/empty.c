@@ -13,7 +13,7 @@ uint64_t empty_frame(const uint8_t *bytes, size_t bytes_len)
     return 0;
 }
 
-uint64_t empty_uplink(UPLINK_COLUMNS, uint64_t meter, uint32_t counter, uint8_t station)
+uint64_t empty_uplink(UPLINK_COLUMNS, uint64_t meter, uint32_t counter, uint64_t station)
 {
     (void)used, (void)used_len, (void)eui, (void)eui_len, (void)sh_addr, (void)sh_addr_len, (void)last, (void)last_len;
     (void)heard, (void)heard_len, (void)meter, (void)counter, (void)station;

@@ -39,7 +39,8 @@ bench_rounds *tables_case(const char *what, const char *name, unsigned size, int
     rows = size;
     table_fill(rows);
     uint64_t answer = chz_uplink(COLUMNS(rows), table_meter(rows - 1), ++counter, 5);
-    need(!chz_refused(answer) && chz_happened(answer) == CHZ_NEW && chz_value(answer) == 1, "chz_uplink doesn't credit");
+    need(!chz_refused(answer) && chz_happened(answer) == CHZ_NEW && chz_uplink_hearers(answer) == 1, "chz_uplink doesn't credit");
+    need(chz_uplink_row(answer) == rows - 1, "chz_uplink names another row");
     need(last[rows - 1] == 1 && heard[rows - 1] == 1 << 5, "chz_uplink changes another row");
     call = empty ? empty_uplink : chz_uplink;
     return rounds_uplink;

@@ -1,7 +1,14 @@
 /* Chozukpima: the proved core of a mioty service centre. Link with libchozukpima.a (x86-64, little endian).
+ * docs/HOST.md shows the loop that a host writes around these calls, and what it must store before it sends a reply.
  *
- * Every buffer is lent for one call and none is kept; the buffers of one call must not overlap. Every call may be handed any contents: what is bad is refused by its
- * number, and a refused call changes no lent byte. docs/HOST.md shows the loop that a host writes around these calls. */
+ * Every buffer is lent for one call and none is kept. The buffers of one call must not overlap, not even two that are only
+ * read, such as uuid and sign. Every call may be handed any contents: what is bad is refused by its number, and a refused call
+ * changes no lent byte. NULL with length 0 is a buffer of no bytes and never crashes: chz_frame answers 1, chz_form 3, chz_read
+ * 15 without a message and 3 without a payload, chz_write, chz_arrive, chz_begin and chz_lost 15; a table of five such columns
+ * has no rows, so chz_find, chz_withdraw and chz_uplink answer 21 and chz_enrol 23.
+ *
+ * No answer depends on the floating point mode (MXCSR) that the host runs in. Nothing is allocated. 16 kB of stack are enough for
+ * every call; measured: chz_arrive 12.4 kB, chz_begin 10.6, chz_write 5.9, chz_read 3.9, chz_lost 2.2, the others below 2. */
 #ifndef CHOZUKPIMA_H
 #define CHOZUKPIMA_H
 
@@ -71,7 +78,8 @@ enum chz_command {
     CHZ_UL_DATA_CMP = 20
 };
 
-/* Every call answers one number: bits 0 to 7 the refusal, 8 to 15 what happened, 16 to 63 a length, a count, a row or a place. */
+/* Every call answers one number: bits 0 to 7 the refusal, 8 to 15 what happened, 16 to 63 the value: a length, a count, a row or
+ * a place, as each call says. */
 static inline unsigned chz_refused(uint64_t answer) { return (unsigned)(answer & 0xFF); }
 static inline unsigned chz_happened(uint64_t answer) { return (unsigned)(answer >> 8 & 0xFF); }
 static inline uint64_t chz_value(uint64_t answer) { return answer >> 16; }
@@ -91,35 +99,71 @@ enum chz_step {
 
 /* What happened, in the answer of chz_uplink. */
 enum chz_credit {
-    CHZ_NEW = 1, /* to be billed: the first of its counter */
-    CHZ_COPY = 2 /* the same packet heard by one more station, or again */
+    CHZ_NEW = 17, /* to be billed: the first of its counter */
+    CHZ_COPY = 18 /* the same packet heard by one more station, or again */
 };
+
+/* The two parts of the value in chz_uplink's answer: how many stations heard the packet so far, and the meter's row. A row of
+ * 2^40 or more would show as the greatest value. */
+static inline unsigned chz_uplink_hearers(uint64_t answer) { return (unsigned)(chz_value(answer) & 0xFF); }
+static inline uint64_t chz_uplink_row(uint64_t answer) { return chz_value(answer) >> 8; }
+
+/* Words for a log. Each takes any number; what is none of its own is "unknown". */
+static inline const char *chz_refusal_name(unsigned refusal) {
+    static const char *const names[] = {
+        "done", "frame incomplete", "wrong identifier", "wrong size", "cut", "byte never used", "too deep", "too many elements",
+        "key not text", "outer element not a map", "bytes left over", "no command", "unknown command", "key twice",
+        "field missing", "invalid value", "version not 1.0", "does not fit the state", "operation ID out of order",
+        "sixteen operations open", "room too short", "no such meter", "already enrolled", "no free row", "columns of unequal length",
+        "station number over 63", "stale counter",
+    };
+    return refusal < sizeof names / sizeof *names ? names[refusal] : "unknown";
+}
+
+/* Spelled as on the wire. */
+static inline const char *chz_command_name(unsigned command) {
+    static const char *const names[] = {
+        "con", "conRsp", "statusRsp", "det", "detRsp", "attPrp", "detPrp", "ulData", "conCmp", "ping", "pingRsp", "pingCmp",
+        "status", "statusCmp", "detCmp", "attPrpRsp", "attPrpCmp", "detPrpRsp", "detPrpCmp", "ulDataRsp", "ulDataCmp",
+    };
+    return command < sizeof names / sizeof *names ? names[command] : "unknown";
+}
+
+/* What happened, in the answer of a session call or of chz_uplink. */
+static inline const char *chz_step_name(unsigned happened) {
+    static const char *const names[] = {
+        "unknown", "begun", "resumed", "opened", "started", "completed", "answered", "issued", "stored", "nothing to store",
+    };
+    if (happened == CHZ_NEW) return "new";
+    if (happened == CHZ_COPY) return "copy";
+    return happened < sizeof names / sizeof *names ? names[happened] : "unknown";
+}
 
 /* A message. What its command has not, and what is absent, is zero, so equal messages are equal bytes. */
 typedef struct chz_message {
-    uint64_t bs_eui;
-    uint64_t sc_eui;
-    uint64_t time;
-    uint64_t uptime;
-    uint64_t ep_eui;
-    uint64_t rx_time;
-    uint64_t rx_duration;
+    uint64_t bs_eui; /* base station */
+    uint64_t sc_eui; /* service centre */
+    uint64_t time;   /* nanoseconds since 1970, UTC: the station's clock */
+    uint64_t uptime; /* seconds */
+    uint64_t ep_eui; /* meter */
+    uint64_t rx_time;     /* nanoseconds since 1970, UTC: centre of the last subpacket */
+    uint64_t rx_duration; /* nanoseconds, centre of the first subpacket to centre of the last */
     int64_t op_id;
-    int64_t sn_bs_op_id;
-    int64_t sn_sc_op_id;
-    double latitude;
+    int64_t sn_bs_op_id; /* the station resumes only if its operations are known up to this ID */
+    int64_t sn_sc_op_id; /* the centre's operations that the station knows, down to this ID */
+    double latitude; /* these three as the station gives them: BSSCI names no unit */
     double longitude;
     double altitude;
-    double duty_cycle;
-    double temp;
-    double cpu_load;
-    double mem_load;
-    double snr;
-    double rssi;
-    double eq_snr;
-    int32_t code;
-    uint32_t packet_cnt;
-    uint32_t last_packet_cnt;
+    double duty_cycle; /* fraction of the last hour spent sending */
+    double temp;       /* degrees Celsius */
+    double cpu_load;   /* 1.0 is all cores busy */
+    double mem_load;   /* 1.0 is all memory in use */
+    double snr;    /* dB */
+    double rssi;   /* dBm */
+    double eq_snr; /* dB, the equivalent under white noise */
+    int32_t code;  /* POSIX error number; 0 is ok */
+    uint32_t packet_cnt;      /* the meter's packet counter */
+    uint32_t last_packet_cnt; /* the last one known, for the station */
     uint16_t version_major;
     uint16_t version_minor;
     uint16_t version_patch;
@@ -128,7 +172,7 @@ typedef struct chz_message {
     uint8_t message_len; /* bytes of message */
     uint8_t profile_len; /* bytes of profile; 0: absent */
     uint8_t user_len;    /* bytes of user_data */
-    uint8_t format;
+    uint8_t format;      /* of user_data; 0 where none was sent */
     /* marks: 0 or 1 */
     uint8_t has_version;
     uint8_t bidi;
@@ -159,7 +203,8 @@ typedef struct chz_message {
     uint8_t reserved[3]; /* zeros */
 } chz_message;
 
-/* A session with one base station. All zeros is a new one. The host stores it and looks, but only the calls change it. */
+/* A session with one base station. All zeros is a new one. The host stores it after every call that changes it, and looks, but
+ * only the calls change it. A state over 2, a stored over 1 or a reserved byte other than 0 make it no session (15). */
 typedef struct chz_session {
     uint64_t bs_eui;
     int64_t highest; /* highest station ID known */
@@ -219,16 +264,19 @@ uint64_t chz_read(const uint8_t *payload, size_t payload_len, uint8_t *message, 
 uint64_t chz_write(const uint8_t *message, size_t message_len, uint8_t *room, size_t room_len);
 
 /* A message arrives from the station: what happened, and the value is how many bytes of reply stand in the room (0: none).
- * uuid is 16 fresh bytes, used where a session begins; sign is the 4 bytes for detRsp. Refusals in this order: while
- * waiting 15, 17, 18, 16, 20; while open 15, 17, 18, 19, 20. */
+ * uuid is 16 fresh bytes, used where a session begins; sign is the 4 bytes for detRsp; they must not overlap. Refusals in this
+ * order: while waiting 15, 17, 18, 16, 20; while connecting 15, 17; while open 15, 17, 18, 19, 20. 15 is bytes that are no
+ * session, a record outside its ranges or a buffer of a wrong length. */
 uint64_t chz_arrive(uint8_t *session, size_t session_len, const uint8_t *message, size_t message_len, uint64_t sc_eui,
                     const uint8_t *uuid, size_t uuid_len, const uint8_t *sign, size_t sign_len, uint8_t *room, size_t room_len);
 
 /* The centre starts ping, status, attPrp or detPrp: the value is how many bytes stand in the room, under the ID issued
- * (session.lowest), whatever op_id was handed in. Refusals 17, 18, 19, 15, 20; a buffer of a wrong length is 15 before these. */
+ * (session.lowest), whatever op_id was handed in. Refusals 17, 18, 19, 15, 20; bytes that are no session or a buffer of a wrong
+ * length are 15 before these. */
 uint64_t chz_begin(uint8_t *session, size_t session_len, const uint8_t *message, size_t message_len, uint8_t *room, size_t room_len);
 
-/* The connection is lost: the session is stored and waits. Refusal 15. */
+/* The connection is lost: the session waits, to be resumed. A session that a host loads after a restart goes through this call
+ * first: it was open when it was stored. Refusal 15. */
 uint64_t chz_lost(uint8_t *session, size_t session_len);
 
 /* The meter table: five columns of the host's, equally long (else 24). used: 0 is free; heard: one bit a station. */
@@ -238,20 +286,23 @@ uint64_t chz_find(const uint8_t *used, size_t used_len, const uint64_t *eui, siz
                   size_t sh_addr_len, const uint32_t *last, size_t last_len, const uint64_t *heard, size_t heard_len,
                   uint64_t meter);
 
-/* Takes the lowest free row for a meter; the value is the row. Refusals 24, 22, 23. */
+/* Takes the lowest free row for a meter; the value is the row. last_billed is the last counter already billed: only packets
+ * with a greater one are credited, so a packet 0 never is. Refusals 24, 22, 23. */
 uint64_t chz_enrol(uint8_t *used, size_t used_len, uint64_t *eui, size_t eui_len, uint16_t *sh_addr, size_t sh_addr_len,
                    uint32_t *last, size_t last_len, uint64_t *heard, size_t heard_len, uint64_t meter,
-                   uint16_t meter_sh_addr, uint32_t counter);
+                   uint16_t meter_sh_addr, uint32_t last_billed);
 
 /* Frees the meter's row; the value is the row. Refusals 24, 21. */
 uint64_t chz_withdraw(uint8_t *used, size_t used_len, const uint64_t *eui, size_t eui_len, const uint16_t *sh_addr,
                       size_t sh_addr_len, const uint32_t *last, size_t last_len, const uint64_t *heard, size_t heard_len,
                       uint64_t meter);
 
-/* Credits a packet: CHZ_NEW or CHZ_COPY, and the value is how many stations heard it so far. Refusals 24, 25, 21, 26. */
+/* Credits a packet: CHZ_NEW or CHZ_COPY; the value is how many stations heard it so far and, 256 times, the row, of which last
+ * and heard may have changed (chz_uplink_hearers, chz_uplink_row). station is 0 to 63. Refusals 24, 25, 21, 26. 26 is a counter
+ * below the last one, or the one enrolled with: it says "not now", and leaves open whether that packet was ever billed. */
 uint64_t chz_uplink(const uint8_t *used, size_t used_len, const uint64_t *eui, size_t eui_len, const uint16_t *sh_addr,
                     size_t sh_addr_len, uint32_t *last, size_t last_len, uint64_t *heard, size_t heard_len, uint64_t meter,
-                    uint32_t counter, uint8_t station);
+                    uint32_t counter, uint64_t station);
 
 /* The same calls on the structs, for hosts that hold these. */
 typedef struct chz_table {
@@ -287,16 +338,16 @@ static inline uint64_t chz_table_find(const chz_table *t, uint64_t meter) {
     return chz_find(t->used, t->rows, t->eui, t->rows, t->sh_addr, t->rows, t->last, t->rows, t->heard, t->rows, meter);
 }
 
-static inline uint64_t chz_table_enrol(chz_table *t, uint64_t meter, uint16_t sh_addr, uint32_t counter) {
+static inline uint64_t chz_table_enrol(chz_table *t, uint64_t meter, uint16_t sh_addr, uint32_t last_billed) {
     return chz_enrol(t->used, t->rows, t->eui, t->rows, t->sh_addr, t->rows, t->last, t->rows, t->heard, t->rows, meter, sh_addr,
-                     counter);
+                     last_billed);
 }
 
 static inline uint64_t chz_table_withdraw(chz_table *t, uint64_t meter) {
     return chz_withdraw(t->used, t->rows, t->eui, t->rows, t->sh_addr, t->rows, t->last, t->rows, t->heard, t->rows, meter);
 }
 
-static inline uint64_t chz_table_uplink(chz_table *t, uint64_t meter, uint32_t counter, uint8_t station) {
+static inline uint64_t chz_table_uplink(chz_table *t, uint64_t meter, uint32_t counter, uint64_t station) {
     return chz_uplink(t->used, t->rows, t->eui, t->rows, t->sh_addr, t->rows, t->last, t->rows, t->heard, t->rows, meter, counter,
                       station);
 }

@@ -1,4 +1,5 @@
-/* The loop that a host writes around the library: bytes in, frames, messages, session steps, credited readings, replies out. */
+/* The loop that a host writes around the library: bytes in, frames, messages, session steps, credited readings; all that
+ * changed is stored; then replies out. */
 #include <inttypes.h>
 #include <stdio.h>
 #include <string.h>
@@ -6,7 +7,6 @@
 #include "host.h"
 
 struct station host_stations[HOST_STATIONS];
-/* Five columns of equal length. A real host stores them together with what it bills. */
 static uint8_t meter_used[HOST_METERS];
 static uint64_t meter_eui[HOST_METERS], meter_heard[HOST_METERS];
 static uint16_t meter_sh_addr[HOST_METERS];
@@ -14,28 +14,61 @@ static uint32_t meter_last[HOST_METERS];
 chz_table host_meters = { meter_used, meter_eui, meter_sh_addr, meter_last, meter_heard, HOST_METERS };
 
 static const uint64_t centre_eui = 0x70B3D5FFFE000001;
-static uint64_t billed, copies, unknown, stale;
 
-static const char *const command_names[] = {
-    [CHZ_CON] = "con",               [CHZ_CON_RSP] = "conRsp",        [CHZ_STATUS_RSP] = "statusRsp",
-    [CHZ_DET] = "det",               [CHZ_DET_RSP] = "detRsp",        [CHZ_ATT_PRP] = "attPrp",
-    [CHZ_DET_PRP] = "detPrp",        [CHZ_UL_DATA] = "ulData",        [CHZ_CON_CMP] = "conCmp",
-    [CHZ_PING] = "ping",             [CHZ_PING_RSP] = "pingRsp",      [CHZ_PING_CMP] = "pingCmp",
-    [CHZ_STATUS] = "status",         [CHZ_STATUS_CMP] = "statusCmp",  [CHZ_DET_CMP] = "detCmp",
-    [CHZ_ATT_PRP_RSP] = "attPrpRsp", [CHZ_ATT_PRP_CMP] = "attPrpCmp", [CHZ_DET_PRP_RSP] = "detPrpRsp",
-    [CHZ_DET_PRP_CMP] = "detPrpCmp", [CHZ_UL_DATA_RSP] = "ulDataRsp", [CHZ_UL_DATA_CMP] = "ulDataCmp",
-};
-static const char *const step_names[] = {
-    [0] = "refused: this is no session", /* only if something else wrote to it */
-    [CHZ_BEGUN] = "begun",     [CHZ_RESUMED] = "resumed",     [CHZ_OPENED] = "opened",
-    [CHZ_STARTED] = "started", [CHZ_COMPLETED] = "completed", [CHZ_ANSWERED] = "answered",
-    [CHZ_ISSUED] = "issued",   [CHZ_STORED] = "stored",       [CHZ_NOTHING] = "nothing to store",
+/* The operations that a station starts, with what answers and what completes them. */
+static const struct operation { uint8_t start, rsp, cmp; } operations[] = {
+    { CHZ_PING, CHZ_PING_RSP, CHZ_PING_CMP },
+    { CHZ_DET, CHZ_DET_RSP, CHZ_DET_CMP },
+    { CHZ_UL_DATA, CHZ_UL_DATA_RSP, CHZ_UL_DATA_CMP },
 };
 
-void host_enrol(uint64_t meter, uint16_t sh_addr, uint32_t counter)
+static const struct operation *operation_of(uint8_t start)
 {
-    uint64_t answer = chz_table_enrol(&host_meters, meter, sh_addr, counter);
-    if (chz_refused(answer)) printf("meter %016" PRIX64 " not enrolled: refused %u\n", meter, chz_refused(answer));
+    for (size_t i = 0; i < sizeof operations / sizeof *operations; i++)
+        if (operations[i].start == start) return &operations[i];
+    return NULL;
+}
+
+static chz_message message_of(uint8_t command, int64_t op_id)
+{
+    chz_message m;
+    memset(&m, 0, sizeof m); /* what a command has not must be zero */
+    m.command = command;
+    m.op_id = op_id;
+    return m;
+}
+
+/* A session that was stored open says so; but its connection ended with the program, so it must wait, or its con is refused. */
+void host_start(void)
+{
+    memset(host_stations, 0, sizeof host_stations);
+    for (size_t row = 0; row < HOST_METERS; row++) outside_load_row(row);
+    for (unsigned number = 0; number < HOST_STATIONS; number++) {
+        outside_load_session(number, &host_stations[number].session);
+        chz_session_lost(&host_stations[number].session);
+    }
+}
+
+static void store_row(uint64_t meter, const char *what, uint64_t answer)
+{
+    const char *why = chz_refusal_name(chz_refused(answer));
+    if (!chz_refused(answer)) {
+        size_t row = chz_value(answer);
+        if (outside_store(&(struct change){ .row = row })) return;
+        outside_load_row(row);
+        why = "not stored";
+    }
+    printf("meter %016" PRIX64 " not %s: %s\n", meter, what, why);
+}
+
+void host_enrol(uint64_t meter, uint16_t sh_addr, uint32_t last_billed)
+{
+    store_row(meter, "enrolled", chz_table_enrol(&host_meters, meter, sh_addr, last_billed));
+}
+
+void host_withdraw(uint64_t meter)
+{
+    store_row(meter, "withdrawn", chz_table_withdraw(&host_meters, meter));
 }
 
 /* The session stays: the station may come back and resume it. Bytes of a frame that was never whole are worth nothing. */
@@ -43,8 +76,10 @@ void host_lost(unsigned number)
 {
     struct station *s = &host_stations[number];
     s->input_len = 0;
+    s->resumed = s->unsettled = false;
     uint64_t answer = chz_session_lost(&s->session);
-    printf("%u: connection lost, %s\n", number, step_names[chz_happened(answer)]);
+    const char *step = chz_refused(answer) ? "ALARM, this is no session" : chz_step_name(chz_happened(answer));
+    printf("%u: connection lost, %s\n", number, step);
 }
 
 static void close_connection(unsigned number)
@@ -53,66 +88,141 @@ static void close_connection(unsigned number)
     host_lost(number);
 }
 
-/* Only what is new is billed. The station gets its reply in every case: it did its part. */
-static void credit(unsigned number, const chz_message *m)
+/* Only what is new is billed; what can't be credited goes to a list that a clerk looks at. False: refused by the host's own
+ * fault, so nothing may be acknowledged. */
+static bool credit(unsigned number, const chz_message *m, struct change *change)
 {
-    uint64_t answer = chz_table_uplink(&host_meters, m->ep_eui, m->packet_cnt, (uint8_t)number);
-    printf("%u: meter %016" PRIX64 " counter %" PRIu32, number, m->ep_eui, m->packet_cnt);
+    uint64_t answer = chz_table_uplink(&host_meters, m->ep_eui, m->packet_cnt, number);
+    printf("%u: meter %016" PRIX64 " counter %" PRIu32 " ", number, m->ep_eui, m->packet_cnt);
+    change->message = m;
     switch (chz_refused(answer)) {
-    case CHZ_NO_ROW:
-        unknown++;
-        printf(" of no meter of ours, not billed\n");
-        return;
-    case CHZ_STALE:
-        stale++;
-        printf(" is stale, not billed\n");
-        return;
-    case CHZ_DONE: break;
-    default: printf(" refused %u: the host's own mistake\n", chz_refused(answer)); return;
+    case CHZ_DONE:
+        change->row = chz_uplink_row(answer);
+        if (chz_happened(answer) == CHZ_NEW) change->list = HOST_BILLS;
+        printf("%s, stations so far %u\n", chz_step_name(chz_happened(answer)), chz_uplink_hearers(answer));
+        return true;
+    case CHZ_NO_ROW: change->list = HOST_STRANGERS; break;
+    case CHZ_STALE: change->list = HOST_LATE; break;
+    default: printf("ALARM, "); break;
     }
-    bool first = chz_happened(answer) == CHZ_NEW;
-    *(first ? &billed : &copies) += 1;
-    printf(first ? " billed" : " heard again");
-    printf(", stations so far %" PRIu64 "\n", chz_value(answer));
+    printf("not billed: %s\n", chz_refusal_name(chz_refused(answer)));
+    return change->list != HOST_NO_LIST;
+}
+
+/* The station counts an operation as complete when it has sent the Cmp. One that was lost with its connection never comes
+ * again, so its place would be taken for good. Once the station sends something new, it has sent again all that it had: what
+ * was open at the resume and didn't come again is completed here. */
+static void complete_left_over(unsigned number)
+{
+    static const uint8_t uuid[16], sign[4]; /* a Cmp needs neither, nor a room: it has no reply */
+    struct station *s = &host_stations[number];
+    s->unsettled = false;
+    for (int i = 0; i < 16; i++) {
+        const struct operation *o = operation_of(s->session.station_kind[i]);
+        if (!o || s->again >> i & 1) continue;
+        chz_message cmp = message_of(o->cmp, s->session.station_id[i]);
+        chz_session_arrive(&s->session, &cmp, centre_eui, uuid, sign, NULL, 0);
+        printf("%u: %s %" PRId64 " was lost\n", number, chz_command_name(cmp.command), cmp.op_id);
+    }
+}
+
+/* After a resume the station sends again what it has no Rsp for. Its ID is known (18), so it is answered from here. */
+static uint64_t answer_again(struct station *s, const chz_message *m, uint8_t rsp, const uint8_t sign[4], uint8_t *room)
+{
+    chz_message reply = message_of(rsp, m->op_id);
+    if (rsp == CHZ_DET_RSP) memcpy(reply.sign, sign, 4);
+    for (int i = 0; i < 16; i++)
+        if (s->session.station_id[i] == m->op_id && s->session.station_kind[i] == m->command) s->again |= (uint16_t)(1 << i);
+    return chz_message_write(&reply, room, CHZ_ROOM);
+}
+
+/* The session's step; its reply stands in the room. Nothing of it is stored yet. */
+static uint64_t take_step(unsigned number, const chz_message *m, uint8_t *room)
+{
+    struct station *s = &host_stations[number];
+    const struct operation *o = operation_of(m->command);
+    uint8_t uuid[16] = { 0 }, sign[4] = { 0 };
+    if (m->command == CHZ_CON) outside_uuid(uuid);
+    if (m->command == CHZ_DET) outside_sign(m, sign);
+    if (o && s->unsettled && m->op_id > s->session.highest) complete_left_over(number);
+    uint64_t answer = chz_session_arrive(&s->session, m, centre_eui, uuid, sign, room, CHZ_ROOM);
+    bool known = chz_refused(answer) == CHZ_ID_OUT_OF_ORDER && m->op_id > 0;
+    if (o && s->resumed && known) return answer_again(s, m, o->rsp, sign, room);
+    if (m->command == CHZ_CON) s->resumed = chz_happened(answer) == CHZ_RESUMED;
+    if (chz_happened(answer) == CHZ_OPENED) s->unsettled = s->resumed, s->again = 0;
+    return answer;
 }
 
 /* A message that can't be read costs only itself: its frame was whole, so the next one is found. */
 static void read_refused(unsigned number, uint64_t answer)
 {
-    printf("%u: message refused %u", number, chz_refused(answer));
+    printf("%u: message refused %u, %s", number, chz_refused(answer), chz_refusal_name(chz_refused(answer)));
     if (chz_refused(answer) <= CHZ_LEFT_OVER) printf(" at byte %" PRIu64, chz_value(answer));
     printf("\n");
 }
 
-/* A station of another version can't be served. Any other refusal costs this one message: the session is as it was.
- * 20 doesn't come, because the room is CHZ_ROOM long. */
-static bool arrive_refused(unsigned number, const chz_message *m, unsigned refusal)
+/* A Rsp or Cmp of nothing (17) and an ID out of order (18) cost this one message. Else a con or start stays without its answer:
+ * the station sends it again after a resume and not before, so the connection is closed. 15 and 20 are the host's own fault. */
+static bool step_refused(unsigned number, const chz_message *m, unsigned refusal)
 {
-    printf("%u: %s %" PRId64 " refused %u\n", number, command_names[m->command], m->op_id, refusal);
-    if (refusal != CHZ_VERSION) return true;
+    bool waits = m->command == CHZ_CON || operation_of(m->command);
+    printf("%u: %s %" PRId64, number, chz_command_name(m->command), m->op_id);
+    printf(" refused %u, %s\n", refusal, chz_refusal_name(refusal));
+    if (refusal == CHZ_ID_OUT_OF_ORDER || (refusal == CHZ_STATE && !waits)) return true;
     close_connection(number);
     return false;
 }
 
-/* One message. False: the connection is closed. */
+/* After a resume the centre, too, sends again what has no answer, under the ID that it had. */
+static void send_again(unsigned number)
+{
+    const chz_session *session = &host_stations[number].session;
+    uint8_t room[CHZ_ROOM];
+    for (int i = 0; i < 16; i++) {
+        chz_message m;
+        if (!session->centre_id[i] || !outside_load_asked(number, session->centre_id[i], &m)) continue;
+        uint64_t answer = chz_message_write(&m, room, sizeof room);
+        printf("%u: %s %" PRId64 " again\n", number, chz_command_name(m.command), m.op_id);
+        if (!chz_refused(answer)) outside_send(number, room, chz_value(answer));
+    }
+}
+
+/* What isn't stored hasn't happened. The station has no reply, so it comes back, resumes and sends again. */
+static bool take_back(unsigned number, const chz_session *before, size_t row)
+{
+    printf("%u: not stored, not answered\n", number);
+    host_stations[number].session = *before;
+    if (row != HOST_NO_ROW) outside_load_row(row);
+    close_connection(number);
+    return false;
+}
+
+/* One message. False: the connection is closed. With threads, the station's lock is held all the way, the table's from before
+ * credit until the change is stored or taken back. */
 static bool take_message(unsigned number, const uint8_t *payload, size_t len)
 {
     struct station *s = &host_stations[number];
+    const chz_session before = s->session;
+    struct change change = { number, &s->session, HOST_NO_ROW, HOST_NO_LIST, NULL };
     chz_message m;
-    uint8_t uuid[16] = { 0 }, sign[4] = { 0 }, room[CHZ_ROOM];
+    uint8_t room[CHZ_ROOM];
     uint64_t answer = chz_message_read(payload, len, &m);
     if (chz_refused(answer)) {
         read_refused(number, answer);
         return true;
     }
-    if (m.command == CHZ_CON) outside_uuid(uuid);
-    if (m.command == CHZ_DET) outside_sign(&m, sign);
-    answer = chz_session_arrive(&s->session, &m, centre_eui, uuid, sign, room, sizeof room);
-    if (chz_refused(answer)) return arrive_refused(number, &m, chz_refused(answer));
-    printf("%u: %s %" PRId64 " %s\n", number, command_names[m.command], m.op_id, step_names[chz_happened(answer)]);
-    /* The reading is safe before the station is told so: behind a reply it may forget the packet. */
-    if (m.command == CHZ_UL_DATA && chz_happened(answer) == CHZ_STARTED) credit(number, &m);
+    answer = take_step(number, &m, room);
+    if (chz_refused(answer)) {
+        s->session = before;
+        return step_refused(number, &m, chz_refused(answer));
+    }
+    const char *step = chz_happened(answer) ? chz_step_name(chz_happened(answer)) : "again";
+    printf("%u: %s %" PRId64 " %s\n", number, chz_command_name(m.command), m.op_id, step);
+    bool good = m.command != CHZ_UL_DATA || credit(number, &m, &change);
+    if (!good || !outside_store(&change)) return take_back(number, &before, change.row);
+    /* Only now: behind the reply the station may forget the packet. */
     if (chz_value(answer)) outside_send(number, room, chz_value(answer));
+    if (s->resumed && chz_happened(answer) == CHZ_OPENED) send_again(number);
     return true;
 }
 
@@ -130,7 +240,7 @@ static bool take_frames(unsigned number)
     }
     /* Behind a bad frame nobody knows where the next one starts. */
     if (chz_refused(answer) != CHZ_FRAME_INCOMPLETE) {
-        printf("%u: frame refused %u\n", number, chz_refused(answer));
+        printf("%u: frame refused %u, %s\n", number, chz_refused(answer), chz_refusal_name(chz_refused(answer)));
         close_connection(number);
         return false;
     }
@@ -156,21 +266,25 @@ bool host_bytes(unsigned number, const uint8_t *bytes, size_t len)
     return connected;
 }
 
-/* The centre starts an operation; the library chooses its ID. */
+/* The centre starts an operation; the library chooses its ID, and the ID is stored before the station sees it. */
 void host_begin(unsigned number, const chz_message *message)
 {
     struct station *s = &host_stations[number];
+    const chz_session before = s->session;
+    const char *name = chz_command_name(message->command);
     uint8_t room[CHZ_ROOM];
     uint64_t answer = chz_session_begin(&s->session, message, room, sizeof room);
     if (chz_refused(answer)) {
-        printf("%u: %s not started: refused %u\n", number, command_names[message->command], chz_refused(answer));
+        printf("%u: %s not started, refused %u, %s\n", number, name, chz_refused(answer), chz_refusal_name(chz_refused(answer)));
         return;
     }
-    printf("%u: %s %" PRId64 " %s\n", number, command_names[message->command], s->session.lowest, step_names[chz_happened(answer)]);
+    chz_message asked = *message;
+    asked.op_id = s->session.lowest;
+    if (!outside_store(&(struct change){ number, &s->session, HOST_NO_ROW, HOST_ASKED, &asked })) {
+        printf("%u: %s not started, not stored\n", number, name);
+        s->session = before;
+        return;
+    }
+    printf("%u: %s %" PRId64 " %s\n", number, name, asked.op_id, chz_step_name(chz_happened(answer)));
     outside_send(number, room, chz_value(answer));
-}
-
-void host_totals(void)
-{
-    printf("billed %" PRIu64 ", heard again %" PRIu64 ", unknown %" PRIu64 ", stale %" PRIu64 "\n", billed, copies, unknown, stale);
 }

@@ -1,4 +1,4 @@
-/* A host around the library: what replay.c, or a program with real connections, calls and what it provides. */
+/* A host around the library: what replay.c, or a program with real connections and a database, calls and what it provides. */
 #ifndef HOST_H
 #define HOST_H
 
@@ -13,7 +13,11 @@ enum {
 
 /* One base station. Its place in the array is its station number for good: the table's heard column has a bit for it. */
 struct station {
-    chz_session session; /* all zeros at first; kept while the connection is lost */
+    chz_session session; /* the store has the same */
+    /* Of this connection alone: */
+    bool resumed;   /* it goes on with the stored session, so starts may come again */
+    bool unsettled; /* and no new one has come yet */
+    uint16_t again; /* places in the session whose start has come again, a bit each */
     uint8_t input[CHZ_INPUT]; /* the longest frame, so an incomplete one always leaves space for more bytes */
     size_t input_len;
 };
@@ -22,13 +26,35 @@ extern struct station host_stations[HOST_STATIONS];
 extern chz_table host_meters;
 
 /* The loop, in host.c. */
-void host_enrol(uint64_t meter, uint16_t sh_addr, uint32_t counter);
+void host_start(void); /* before all others: what is known stands in the store */
+void host_enrol(uint64_t meter, uint16_t sh_addr, uint32_t last_billed);
+void host_withdraw(uint64_t meter);
 bool host_bytes(unsigned number, const uint8_t *bytes, size_t len);
 void host_lost(unsigned number);
 void host_begin(unsigned number, const chz_message *message);
-void host_totals(void);
 
-/* What the loop needs from around it: replay.c reads these from the recording. */
+/* What one transaction stores: all of it, or nothing. */
+enum host_list {
+    HOST_NO_LIST,
+    HOST_BILLS,     /* credited packets */
+    HOST_LATE,      /* not credited: a later one was */
+    HOST_STRANGERS, /* not credited: no such meter */
+    HOST_ASKED      /* operations of the centre, each until it is answered */
+};
+#define HOST_NO_ROW SIZE_MAX
+struct change {
+    unsigned number;            /* the station */
+    const chz_session *session; /* its session; NULL: none */
+    size_t row;                 /* a row of host_meters; HOST_NO_ROW: none */
+    enum host_list list;        /* the list that the message is appended to */
+    const chz_message *message;
+};
+
+/* What the loop needs from around it. replay.c has a recording for the connections and plain memory for the store. */
+bool outside_store(const struct change *change); /* true: it is stored, and outlives a crash */
+void outside_load_session(unsigned number, chz_session *session);
+void outside_load_row(size_t row); /* into host_meters */
+bool outside_load_asked(unsigned number, int64_t op_id, chz_message *message);
 void outside_uuid(uint8_t uuid[16]);                        /* 16 fresh random bytes */
 void outside_sign(const chz_message *det, uint8_t sign[4]); /* from the key store */
 void outside_send(unsigned number, const uint8_t *bytes, size_t len);

@@ -1,9 +1,11 @@
 #!/usr/bin/env python3
-"""Writes conversation.txt to standard output: what two base stations send, cut into pieces as a connection would."""
+"""Writes conversation.txt to standard output: what two base stations send, cut into pieces as a connection would, and what
+befalls the host meanwhile."""
 import struct
 
 METERS = [0x70B3D50000000001, 0x70B3D50000000002, 0x70B3D50000000003]
 STRANGER = 0x70B3D500000000FF
+SUCCESSOR = 0x70B3D50000000004
 STATIONS = [0x70B3D5FFFE00A000, 0x70B3D5FFFE00A001]
 held = {0: b"", 1: b""}  # bytes of the last frame that come with the next piece
 cuts = iter([0, 7, 1, 13, 0, 30, 2, 11, 5] * 20)
@@ -57,8 +59,8 @@ def say(station, command, op_id, cut=None, **fields):
     send(station, frame(element({"command": command, "opId": op_id, **fields})), cut)
 
 
-def con(station, uuid, **further):
-    say(station, "con", 0, version="1.0.2", bsEui=STATIONS[station], bidi=True, snBsUuid=bytes([uuid] * 16), **further)
+def con(station, uuid, cut=None, **further):
+    say(station, "con", 0, cut, version="1.0.2", bsEui=STATIONS[station], bidi=True, snBsUuid=bytes([uuid] * 16), **further)
 
 
 def heard(station, op_id, meter, counter, cut=None, **further):
@@ -73,6 +75,25 @@ def lost(station):
 
 def begin(station, what):
     print(f"{station} begin {what}")
+
+
+def fail():
+    print("fail")
+
+
+def restart():
+    held.update({0: b"", 1: b""})
+    print("restart")
+
+
+def come_back(station, uuid, known, issued):
+    con(station, uuid, cut=0, snBsOpId=known, snScOpId=issued)
+    say(station, "conCmp", 0, cut=0)
+
+
+def leaves(station, op_id, **further):
+    say(station, "det", op_id, epEui=METERS[2], rxTime=1700000000000000999, packetCnt=302, snr=9.0, rssi=-101.5, sign=b"\x01\x02\x03\x04",
+        **further)
 
 
 def connect():
@@ -95,17 +116,17 @@ def readings():
     for op_id in (2, 3, 4):
         say(0, "ulDataCmp", op_id)
         say(1, "ulDataCmp", op_id)
-    remark("A newer packet, then the older one again: stale. Then a meter of another house.")
+    remark("A newer packet, then the older one again: it goes to the list of late packets. Then a meter of another house.")
     heard(0, 5, METERS[0], 102, cut=0)
     heard(1, 5, METERS[0], 101)
     heard(1, 6, STRANGER, 9)
-    remark("The same operation ID once more: out of order, so nothing is credited.")
+    remark("The same operation ID once more, in a connection that did not resume: out of order, so nothing is credited.")
     heard(0, 5, METERS[1], 202)
 
 
 def operations():
     remark("A meter leaves; the centre asks for a status, pings, and tells the other station.")
-    say(0, "det", 6, epEui=METERS[2], rxTime=1700000000000000999, packetCnt=302, snr=9.0, rssi=-101.5, sign=b"\x01\x02\x03\x04")
+    leaves(0, 6)
     say(0, "detCmp", 6)
     begin(0, "status")
     begin(0, "ping")
@@ -134,6 +155,85 @@ def lose_and_resume():
     say(1, "ulDataCmp", 1, cut=0)
 
 
+def not_stored():
+    remark("A commit fails: nothing is answered, and the connection is closed. The station resumes, sends again, and is billed.")
+    fail()
+    heard(0, 8, METERS[0], 103, cut=0)
+    come_back(0, 0xA0, 7, -2)
+    heard(0, 8, METERS[0], 103, cut=0)
+    say(0, "ulDataCmp", 8, cut=0)
+    remark("The same where the centre starts something: its ID is not used up. Then it works.")
+    fail()
+    begin(0, "ping")
+    begin(0, "ping")
+
+
+def restarted():
+    remark("The host ends behind the commit of ulData 9, its reply and the ping on their way, and starts again. Station 0 resumes and")
+    remark("sends ulData 9 again: its ID is known, so it is answered from outside the session, and the table knows it for a copy.")
+    remark("The centre sends its ping again.")
+    heard(0, 9, METERS[1], 203, cut=0)
+    restart()
+    come_back(0, 0xA0, 8, -2)
+    heard(0, 9, METERS[1], 203, cut=0)
+    say(0, "pingRsp", -3, cut=0)
+    say(0, "ulDataCmp", 9, cut=0)
+    come_back(1, 0xB1, 1, 0)
+
+
+def lost_cmp():
+    remark("The Cmp of ulData 10 is lost with the connection. After the resume det 11 comes again and ulData 12 is new: so 10 is")
+    remark("complete, and 11 is not yet.")
+    heard(0, 10, METERS[0], 104, cut=0)
+    leaves(0, 11, cut=0)
+    lost(0)
+    come_back(0, 0xA0, 10, -3)
+    leaves(0, 11, cut=0)
+    heard(0, 12, METERS[0], 105, cut=0)
+    say(0, "detCmp", 11, cut=0)
+    say(0, "ulDataCmp", 12, cut=0)
+
+
+def known_but_not_credited():
+    remark("ulData 13 comes damaged and is dropped, ulData 14 of another meter is credited. After a resume 13 comes again, whole: its ID")
+    remark("is known, but the table has not seen its packet, so it is billed.")
+    send(0, frame(element({"command": "ulData", "opId": 13})), 0)
+    heard(0, 14, METERS[1], 204, cut=0)
+    lost(0)
+    come_back(0, 0xA0, 14, -3)
+    heard(0, 13, METERS[0], 106, cut=0)
+    say(0, "ulDataCmp", 13, cut=0)
+
+
+def sixteen_open():
+    remark("Fifteen pings and a reading that the station does not complete, then one reading more: the connection is closed at once. The")
+    remark("station has the sixteen answers, so after the resume it sends the last reading alone, and the sixteen places are free again.")
+    pings = [frame(element({"command": "ping", "opId": 15 + i})) for i in range(15)]
+    send(0, b"".join(pings), 0)
+    heard(0, 30, METERS[0], 107, cut=0)
+    heard(0, 31, METERS[1], 205, cut=0)
+    come_back(0, 0xA0, 30, -3)
+    heard(0, 31, METERS[1], 205, cut=0)
+
+
+def con_while_open():
+    remark("The station connects anew before the host knows that the old connection is dead: its con is refused, the connection is")
+    remark("closed, and its next con resumes.")
+    con(0, 0xA0, cut=0, snBsOpId=31, snScOpId=-3)
+    come_back(0, 0xA0, 31, -3)
+    say(0, "ulDataCmp", 31, cut=0)
+
+
+def replaced():
+    remark("Meter 2 is replaced: its successor has another EUI and was billed up to packet 11 elsewhere. A packet of the old one is a")
+    remark("stranger's now.")
+    print(f"withdraw {METERS[1]:016X}")
+    print(f"meter {SUCCESSOR:016X} 1A2B 11")
+    heard(0, 32, SUCCESSOR, 11, cut=0)
+    heard(0, 33, SUCCESSOR, 12, cut=0)
+    heard(0, 34, METERS[1], 206, cut=0)
+
+
 def damage():
     ping = element({"command": "ping", "opId": 2})
     remark("Damaged payloads in whole frames: each costs one message.")
@@ -159,8 +259,10 @@ def damage():
 
 
 remark("What two base stations send. Lines are cut inside frames: a frame's end may stand in its station's next line.")
-remark("Meters: long address, short address (two share one), counter at enrolment.")
+remark("'fail': the host's next commit fails. 'restart': the host ends and starts with nothing but its store.")
+remark("Meters: long address, short address (two share one), last counter already billed.")
 for meter, short, counter in zip(METERS, ("1A2B", "1A2B", "3C4D"), (100, 200, 300)):
     print(f"meter {meter:016X} {short} {counter}")
-for part in (connect, readings, operations, lose_and_resume, damage):
+for part in (connect, readings, operations, lose_and_resume, not_stored, restarted, lost_cmp, known_but_not_credited, sixteen_open,
+             con_while_open, replaced, damage):
     part()

@@ -1,7 +1,8 @@
-/* Replays a recorded conversation through the host's loop and prints what it credited and what it sent.
+/* Replays a recorded conversation through the host's loop and prints what it did, what it sent, and what its store holds at last.
  *   replay FILE [PIECE]     PIECE: hands a line's bytes over so many at a time, and prints the same
  * One event a line: 'STATION bytes HEX', 'STATION lost', 'STATION begin ping|status', 'STATION begin detPrp EUI';
- * before them 'meter EUI SHORT_ADDRESS COUNTER' for each meter to enrol. '#' starts a remark. */
+ * 'meter EUI SHORT_ADDRESS LAST_BILLED' enrols a meter, 'withdraw EUI' withdraws it; 'fail': the next commit fails; 'restart': the host
+ * ends and starts again with nothing but its store. '#' starts a remark. */
 #include <inttypes.h>
 #include <stdio.h>
 #include <stdlib.h>
@@ -9,8 +10,63 @@
 
 #include "host.h"
 
-enum { LONGEST_LINE = 16384 };
+enum { LONGEST_LINE = 16384, LONGEST_LIST = 256 };
 static size_t piece = LONGEST_LINE;
+
+/* A real host has a database: these are its tables, and a change is one transaction. */
+static struct row { uint8_t used; uint64_t eui; uint16_t sh_addr; uint32_t last; uint64_t heard; } stored_rows[HOST_METERS];
+static chz_session stored_sessions[HOST_STATIONS];
+static struct { enum host_list list; unsigned number; chz_message message; } stored_list[LONGEST_LIST];
+static size_t stored_count;
+static bool next_fails;
+
+static void stop(const char *why, const char *line)
+{
+    fprintf(stderr, "replay: %s: %s\n", why, line);
+    exit(2);
+}
+
+bool outside_store(const struct change *c)
+{
+    const chz_table *t = &host_meters;
+    bool fails = next_fails;
+    next_fails = false;
+    if (fails) return false;
+    if (c->session) stored_sessions[c->number] = *c->session;
+    if (c->row != HOST_NO_ROW)
+        stored_rows[c->row] = (struct row){ t->used[c->row], t->eui[c->row], t->sh_addr[c->row], t->last[c->row], t->heard[c->row] };
+    if (c->list == HOST_NO_LIST) return true;
+    if (stored_count == LONGEST_LIST) stop("too much to store", "make the list longer");
+    stored_list[stored_count].list = c->list;
+    stored_list[stored_count].number = c->number;
+    stored_list[stored_count++].message = *c->message;
+    return true;
+}
+
+void outside_load_session(unsigned number, chz_session *session)
+{
+    *session = stored_sessions[number];
+}
+
+void outside_load_row(size_t row)
+{
+    const struct row *r = &stored_rows[row];
+    host_meters.used[row] = r->used;
+    host_meters.eui[row] = r->eui;
+    host_meters.sh_addr[row] = r->sh_addr;
+    host_meters.last[row] = r->last;
+    host_meters.heard[row] = r->heard;
+}
+
+/* The latest, since a new session issues the same IDs again. A real host deletes what is answered. */
+bool outside_load_asked(unsigned number, int64_t op_id, chz_message *message)
+{
+    for (size_t i = stored_count; i-- > 0;) {
+        *message = stored_list[i].message;
+        if (stored_list[i].list == HOST_ASKED && stored_list[i].number == number && message->op_id == op_id) return true;
+    }
+    return false;
+}
 
 /* A recording must print the same each time, so the fresh bytes are counted: a real host calls getrandom. */
 void outside_uuid(uint8_t uuid[16])
@@ -25,22 +81,21 @@ void outside_sign(const chz_message *det, uint8_t sign[4])
     for (int i = 0; i < 4; i++) sign[i] = (uint8_t)(det->ep_eui >> 8 * i);
 }
 
+static void print_hex(const uint8_t *bytes, size_t len)
+{
+    for (size_t i = 0; i < len; i++) printf("%02X", bytes[i]);
+    printf("\n");
+}
+
 void outside_send(unsigned number, const uint8_t *bytes, size_t len)
 {
     printf("%u: sends ", number);
-    for (size_t i = 0; i < len; i++) printf("%02X", bytes[i]);
-    printf("\n");
+    print_hex(bytes, len);
 }
 
 void outside_close(unsigned number)
 {
     printf("%u: closes\n", number);
-}
-
-static void stop(const char *why, const char *line)
-{
-    fprintf(stderr, "replay: %s: %s\n", why, line);
-    exit(2);
 }
 
 static void play_bytes(unsigned number, const char *hex)
@@ -68,23 +123,42 @@ static void play_begin(unsigned number, const char *what)
     host_begin(number, &m);
 }
 
-static void play(const char *line)
+static void play_station(const char *line)
 {
-    unsigned number, sh_addr;
-    uint64_t meter;
-    uint32_t counter;
+    unsigned number;
     int used = 0;
     char event[8];
-    if (*line == '#' || *line == '\n') return;
-    if (sscanf(line, "meter %" SCNx64 " %x %" SCNu32, &meter, &sh_addr, &counter) == 3) {
-        host_enrol(meter, (uint16_t)sh_addr, counter);
-        return;
-    }
     if (sscanf(line, "%u %7s %n", &number, event, &used) != 2 || number >= HOST_STATIONS) stop("no event", line);
     if (!strcmp(event, "bytes")) play_bytes(number, line + used);
     else if (!strcmp(event, "lost")) host_lost(number);
     else if (!strcmp(event, "begin")) play_begin(number, line + used);
     else stop("no event", line);
+}
+
+static void play(const char *line)
+{
+    unsigned sh_addr;
+    uint64_t meter;
+    uint32_t last_billed;
+    if (*line == '#' || *line == '\n') return;
+    if (!strcmp(line, "restart\n")) printf("restarts\n"), host_start();
+    else if (!strcmp(line, "fail\n")) next_fails = true;
+    else if (sscanf(line, "withdraw %" SCNx64, &meter) == 1) host_withdraw(meter);
+    else if (sscanf(line, "meter %" SCNx64 " %x %" SCNu32, &meter, &sh_addr, &last_billed) == 3)
+        host_enrol(meter, (uint16_t)sh_addr, last_billed);
+    else play_station(line);
+}
+
+static void print_store(void)
+{
+    static const char *const names[] = { [HOST_BILLS] = "bill", [HOST_LATE] = "late", [HOST_STRANGERS] = "stranger" };
+    for (size_t i = 0; i < stored_count; i++) {
+        const chz_message *m = &stored_list[i].message;
+        if (stored_list[i].list == HOST_ASKED) continue;
+        printf("%s: meter %016" PRIX64 " counter %" PRIu32 " from station %u at %" PRIu64 ", data ", names[stored_list[i].list], m->ep_eui,
+               m->packet_cnt, stored_list[i].number, m->rx_time);
+        print_hex(m->user_data, m->user_len);
+    }
 }
 
 int main(int count, char **arguments)
@@ -94,8 +168,9 @@ int main(int count, char **arguments)
     if (!file) stop("can't read", count >= 2 ? arguments[1] : "name a file");
     if (count == 3) piece = strtoul(arguments[2], NULL, 10);
     if (!piece) stop("not a size", arguments[2]);
+    host_start();
     while (fgets(line, sizeof line, file)) play(line);
     fclose(file);
-    host_totals();
+    print_store();
     return 0;
 }

@@ -10,6 +10,9 @@ void steps(void);
 void refused_steps(void);
 void meters(void);
 void refused_meters(void);
+void reals(void);
+void nothing(void);
+void names(void);
 
 /* Four payloads that several groups use: P of document 01, its answer, a con and a reading. */
 #define PING "82 'command' 'ping' 'opId' 01"

@@ -1,7 +1,13 @@
-// C++ takes the header too: its assertions hold and its calls have C names.
+// C++ takes the header too: its assertions hold, its calls have C names, its inline functions compile.
 #include "chozukpima.h"
 
 uint64_t ask(chz_session &session)
 {
     return chz_lost(reinterpret_cast<uint8_t *>(&session), sizeof session);
+}
+
+const char *tell(uint64_t answer)
+{
+    if (chz_uplink_row(answer) == chz_uplink_hearers(answer)) return chz_command_name(CHZ_PING);
+    return chz_refused(answer) ? chz_refusal_name(chz_refused(answer)) : chz_step_name(chz_happened(answer));
 }

@@ -7,10 +7,12 @@
 #include <stdlib.h>
 #include <string.h>
 #include <sys/mman.h>
+#include <xmmintrin.h>
 
-enum { GUARD = 65536, BEFORE = 1024, MARK = 0xC5 };
+enum { GUARD = 65536, BEFORE = 1024, MARK = 0xC5, ALL_MASKED = 0x1F80, WHAT_CAME_UP = 0x003F };
 
 static const char *name = "";
+static unsigned mode = ALL_MASKED;
 static unsigned passed, failed;
 
 static void map(struct lent *l)
@@ -56,11 +58,13 @@ void start(const char *case_name)
 
 void judge(uint64_t answer, uint64_t expected, struct lent *const *lent)
 {
-    bool good = answer == expected;
-    if (!good) printf("%s: expected %" PRIx64 ", answered %" PRIx64 "\n", name, expected, answer);
+    bool same_mode = (_mm_getcsr() & ~WHAT_CAME_UP) == mode;
+    bool good = answer == expected && same_mode;
+    if (!same_mode) printf("%s: the floating point mode was changed\n", name);
+    if (answer != expected) printf("%s (mode %04X): expected %" PRIx64 ", answered %" PRIx64 "\n", name, mode, expected, answer);
     for (int i = 0; lent[i]; i++) {
         if (holds(lent[i])) continue;
-        printf("%s: lent buffer %d, counted from 0, is not as it should be\n", name, i);
+        printf("%s (mode %04X): lent buffer %d, counted from 0, is not as it should be\n", name, mode, i);
         good = false;
     }
     *(good ? &passed : &failed) += 1;
@@ -72,6 +76,12 @@ static void broke(int number)
     printf("%s: signal %d inside the call\n%u passed, %u failed\n", name, number, passed, failed + 1);
     fflush(stdout);
     _Exit(1);
+}
+
+void set_mode(unsigned further)
+{
+    mode = ALL_MASKED | further;
+    _mm_setcsr(mode);
 }
 
 void prepare_cases(void)

@@ -25,6 +25,10 @@ void judge(uint64_t answer, uint64_t expected, struct lent *const *lent);
 void prepare_cases(void);
 int end_cases(void);
 
+/* The floating point mode of all that follows, beside the masks that every program has. */
+enum { DENORMALS_ARE_ZERO = 0x0040, FLUSH_TO_ZERO = 0x8000 };
+void set_mode(unsigned mode);
+
 #define JUDGE(answer, expected, ...) judge(answer, expected, (struct lent *const[]){ __VA_ARGS__, NULL })
 #define ANSWER(refused, happened, value) ((uint64_t)(refused) | (uint64_t)(happened) << 8 | (uint64_t)(value) << 16)
 #define COUNT(list) (sizeof(list) / sizeof *(list))

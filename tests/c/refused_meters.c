@@ -42,7 +42,7 @@ static void used_marks(void)
     struct columns after = table;
     after.heard[2] = 3;
     expect_columns(&after);
-    JUDGE(call_table(UPLINK, &(struct handed){ .meter = 9, .counter = 100 }), ANSWER(0, CHZ_COPY, 2), ALL_COLUMNS);
+    JUDGE(call_table(UPLINK, &(struct handed){ .meter = 9, .counter = 100 }), CREDITED(CHZ_COPY, 2, 2), ALL_COLUMNS);
 }
 
 void refused_meters(void)

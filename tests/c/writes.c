@@ -37,6 +37,7 @@ SPOIL(response_without_open, m->response_exp = 1)
 SPOIL(no_number, m->snr = NAN)
 SPOIL(endless, m->rssi = -INFINITY)
 SPOIL(minus_zero_absent, m->eq_snr = -0.0)
+SPOIL(least_absent, m->eq_snr = 4.9406564584124654e-324)
 SPOIL(negative_station_id, m->has_sn_bs_op_id = 1; m->sn_bs_op_id = -1)
 SPOIL(positive_centre_id, m->has_sn_sc_op_id = 1; m->sn_sc_op_id = 1)
 SPOIL(con_without_version, m->has_version = m->version_major = 0)
@@ -59,6 +60,7 @@ static const struct {
     { "snr no number", READING, no_number },
     { "rssi endless", READING, endless },
     { "absent eqSnr of minus zero", READING, minus_zero_absent },
+    { "absent eqSnr of the least number above zero", READING, least_absent },
     { "negative snBsOpId", CON, negative_station_id },
     { "positive snScOpId", CON, positive_centre_id },
     { "con without version", CON, con_without_version },

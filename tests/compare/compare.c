@@ -1,6 +1,7 @@
 /* Makes the library's calls on the cases that come from standard input (stream.rs says how they are written) and compares the
- * answer and every lent byte with what the reference expects. Each buffer ends at a page that must not be touched and has
- * marked bytes before it. With a case's number as argument it also prints what that case hands over.
+ * answer and every lent byte with what the reference expects. Each call is made twice: in the floating point mode that a program
+ * starts with, and with subnormal numbers taken for zero. Each buffer ends at a page that must not be touched and has marked
+ * bytes before it. With a case's number as argument it also prints what that case hands over.
  * The last line is 'N passed, M failed'. */
 #define _GNU_SOURCE
 #include <setjmp.h>
@@ -11,10 +12,14 @@
 #include <string.h>
 #include <sys/mman.h>
 #include <sys/time.h>
+#include <xmmintrin.h>
 
 #include "chozukpima.h"
 
 enum { MOST_ARGUMENTS = 9, SPACE = 1 << 16, BEFORE = 256, PAGE = 1 << 16, SHOWN = 20, PATIENCE = 5 };
+/* MXCSR as a program starts with it, and with "denormals are zero" and "flush to zero". */
+static const unsigned modes[] = { 0x1F80, 0x9FC0 };
+static unsigned mode;
 #define MARK 0xC5
 
 /* Shapes of arguments: a number, bytes, a message, a session, or a column of 1, 2, 4 or 8 bytes an entry. */
@@ -102,6 +107,12 @@ static void take_argument(int i)
     take(&changed, 1);
     if (changed) take(h->after, h->size);
     else memcpy(h->after, h->before, h->size);
+}
+
+static void lend_argument(int i)
+{
+    struct handed *h = &handed[i];
+    if (call->arguments[i].shape == 'n') return;
     memset(h->lent - BEFORE, MARK, BEFORE);
     memcpy(h->lent, h->before, h->size);
 }
@@ -131,7 +142,7 @@ static uint64_t make_call(void)
     case 6: return chz_find(TABLE);
     case 7: return chz_enrol(TABLE, (uint16_t)N(6), (uint32_t)N(7));
     case 8: return chz_withdraw(TABLE);
-    case 9: return chz_uplink(TABLE, (uint32_t)N(6), (uint8_t)N(7));
+    case 9: return chz_uplink(TABLE, (uint32_t)N(6), N(7));
     default: return chz_form(BYTES(0));
     }
 }
@@ -148,7 +159,7 @@ static void wrong(int *differs, const char *format, ...)
     va_list rest;
     if (failed[call - calls] < SHOWN) {
         if (!*differs) {
-            printf("%s, case %llu, seed %llu:", call->name, (unsigned long long)number, (unsigned long long)seed);
+            printf("%s, case %llu, seed %llu, mode %04X:", call->name, (unsigned long long)number, (unsigned long long)seed, mode);
             print_answer(" expected", must);
             printf("\n");
         }
@@ -222,6 +233,35 @@ static void print_case(void)
     }
 }
 
+static void broke_off(int *differs, int signal)
+{
+    static int endless;
+    if (signal == SIGALRM) wrong(differs, "the call didn't end in %d seconds", PATIENCE);
+    if (signal == SIGALRM && ++endless == 3) end("too many calls don't end");
+    else wrong(differs, "the call broke off by signal %d (%s)", signal, strsignal(signal));
+}
+
+static void call_in_mode(int *differs)
+{
+    for (int i = 0; i < MOST_ARGUMENTS && call->arguments[i].name; i++) lend_argument(i);
+    ticks = 0;
+    int signal = sigsetjmp(back, 0);
+    if (!signal) {
+        _mm_setcsr(mode);
+        inside = 1;
+        uint64_t is = make_call();
+        inside = 0;
+        compare_answer(differs, is);
+    } else {
+        inside = 0;
+        broke_off(differs, signal);
+    }
+    _mm_setcsr(modes[0]);
+    for (int i = 0; i < MOST_ARGUMENTS && call->arguments[i].name; i++)
+        if (call->arguments[i].shape != 'n') compare_buffer(differs, i);
+}
+
+/* A case has passed if it has in both modes. */
 static void one_case(uint8_t which)
 {
     if (which >= CALLS) end("the cases name a call that there isn't");
@@ -230,23 +270,12 @@ static void one_case(uint8_t which)
     must = take_number();
     if (number == asked) print_case();
     static int differs;
+    static size_t m;
     differs = 0;
-    ticks = 0;
-    int signal = sigsetjmp(back, 0);
-    if (!signal) {
-        inside = 1;
-        uint64_t is = make_call();
-        inside = 0;
-        compare_answer(&differs, is);
-    } else {
-        inside = 0;
-        static int endless;
-        if (signal == SIGALRM) wrong(&differs, "the call didn't end in %d seconds", PATIENCE);
-        if (signal == SIGALRM && ++endless == 3) end("too many calls don't end");
-        else wrong(&differs, "the call broke off by signal %d (%s)", signal, strsignal(signal));
+    for (m = 0; m < 2 && !differs; m++) {
+        mode = modes[m];
+        call_in_mode(&differs);
     }
-    for (int i = 0; i < MOST_ARGUMENTS && call->arguments[i].name; i++)
-        if (call->arguments[i].shape != 'n') compare_buffer(&differs, i);
     if (differs) failed[which]++;
     else passed[which]++;
     refused[which][chz_refused(must)]++;

@@ -165,10 +165,10 @@ impl Stream {
         self.case(Case::new(Call::Withdraw).columns(&before, columns).number(meter), answer)
     }
 
-    pub fn uplink(&mut self, columns: &mut Columns, meter: u64, counter: u32, station: u8) -> u64 {
+    pub fn uplink(&mut self, columns: &mut Columns, meter: u64, counter: u32, station: u64) -> u64 {
         let before = columns.clone();
         let answer = calls::uplink(columns, meter, counter, station);
         let case = Case::new(Call::Uplink).columns(&before, columns).number(meter);
-        self.case(case.number(counter.into()).number(station.into()), answer)
+        self.case(case.number(counter.into()).number(station), answer)
     }
 }

@@ -24,7 +24,7 @@ fn uplinks(stream: &mut Stream, used: [u8; 2]) {
     for (last, counter) in [(0, 0), (0, 1), (5, 4), (5, 5), (5, 6), (u32::MAX, u32::MAX), (u32::MAX, 0), (u32::MAX - 1, u32::MAX)]
     {
         for heard in [0, 1, 1 << 31, 1 << 32, 1 << 63, u64::MAX] {
-            for station in [0, 1, 31, 32, 33, 62, 63, 64, 65, 127, 128, 255] {
+            for station in [0, 1, 31, 32, 33, 62, 63, 64, 65, 127, 128, 255, 256, 259, 1 << 32, 1 << 63, u64::MAX] {
                 stream.uplink(&mut columns(used, last, heard), 7, counter, station);
             }
         }

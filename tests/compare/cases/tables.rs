@@ -81,7 +81,7 @@ fn call(stream: &mut Stream, random: &mut Random, columns: &mut Columns) {
         3 => stream.withdraw(columns, meter),
         _ => {
             let counter = near(random, columns, meter);
-            let station = random.pick(&[0, 1, 7, 31, 32, 62, 63, 63, any as u8 & 63, any as u8 & 63, 64, 65, 128, 255]);
+            let station = random.pick(&[0, 1, 7, 31, 32, 62, 63, 63, any & 63, any & 63, 64, any | 64, 128, 259]);
             stream.uplink(columns, meter, counter, station)
         }
     };

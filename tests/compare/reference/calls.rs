@@ -139,7 +139,8 @@ pub fn withdraw(columns: &mut Columns, meter: u64) -> u64 {
     answered(columns.call(|rows| table::withdraw(rows, meter)).map(|row| answer(0, row)))
 }
 
-pub fn uplink(columns: &mut Columns, meter: u64, counter: u32, station: u8) -> u64 {
+/// The header: "the value is how many stations heard it so far and, 256 times, the row"
+pub fn uplink(columns: &mut Columns, meter: u64, counter: u32, station: u64) -> u64 {
     let credited = columns.call(|rows| table::uplink(rows, meter, counter, station));
-    answered(credited.map(|(credit, heard)| answer(credit as u8, heard as usize)))
+    answered(credited.map(|(credit, heard, row)| answer(credit as u8, heard as usize + 256 * row)))
 }

@@ -83,7 +83,7 @@ impl<'a> Walk<'a> {
             Lead::Small(number) => Element::Whole(number.into()),
             Lead::Unsigned(width) => Element::Whole(self.big_endian(width, start)?.into()),
             Lead::Signed(width) => Element::Whole(signed(self.big_endian(width, start)?, width)),
-            Lead::Float(4) => Element::Real(f32::from_bits(self.big_endian(4, start)? as u32).into()),
+            Lead::Float(4) => Element::Real(widened(self.big_endian(4, start)?)),
             Lead::Float(_) => Element::Real(f64::from_bits(self.big_endian(8, start)?)),
             Lead::Text(length) => Element::Text(self.counted(length, 0, start)?.to_vec()),
             Lead::Bin(length) => self.counted(length, 0, start).map(|_| Element::Bin)?,
@@ -138,6 +138,19 @@ impl<'a> Walk<'a> {
         self.at += count;
         Ok(taken)
     }
+}
+
+/// "float 32 is widened exactly": by its value, mantissa times a power of two, which float 64 holds. The mode of the floating
+/// point unit has no part in it: whole numbers become reals, and powers of two are put together from their bits.
+fn widened(bits: u64) -> f64 {
+    let (sign, exponent, mantissa) = (bits >> 31 << 63, bits >> 23 & 0xFF, bits & 0x7F_FFFF);
+    let power = |exponent: u64| f64::from_bits(exponent << 52);
+    let size = match exponent {
+        0 => mantissa as f64 * power(1023 - 149),
+        0xFF => f64::from_bits(0x7FF << 52 | mantissa << 29),
+        _ => (mantissa | 0x80_0000) as f64 * power(1023 - 150 + exponent),
+    };
+    f64::from_bits(size.to_bits() | sign)
 }
 
 /// The two's complement number in the lowest bytes.

@@ -15,9 +15,12 @@ pub struct Row {
 
 #[derive(Clone, Copy, Debug, PartialEq, Eq)]
 pub enum Credit {
-    New = 1,
-    Copy = 2,
+    New = 17,
+    Copy = 18,
 }
+
+/// A credited packet: new or a copy, how many stations heard it so far, and the row.
+pub type Credited = (Credit, u32, usize);
 
 /// "A lookup finds the first used row with that EUI; short addresses may repeat."
 pub fn find(rows: &[Row], meter: u64) -> Result<usize, Refusal> {
@@ -43,7 +46,7 @@ pub fn withdraw(rows: &mut [Row], meter: u64) -> Result<usize, Refusal> {
 
 /// "counter above last: new, last set, heard is this station only; equal with heard not empty: copy, station added; else
 /// 26. The answer says how many base stations heard the packet so far."
-pub fn uplink(rows: &mut [Row], meter: u64, counter: u32, station: u8) -> Result<(Credit, u32), Refusal> {
+pub fn uplink(rows: &mut [Row], meter: u64, counter: u32, station: u64) -> Result<Credited, Refusal> {
     // "Test 24 first, 25 next."
     if station > 63 {
         return Err(STATION_NUMBER);
@@ -60,5 +63,5 @@ pub fn uplink(rows: &mut [Row], meter: u64, counter: u32, station: u8) -> Result
     } else {
         return Err(STALE);
     };
-    Ok((credit, row.heard.count_ones()))
+    Ok((credit, row.heard.count_ones(), at))
 }
