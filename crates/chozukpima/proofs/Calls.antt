@@ -1,11 +1,10 @@
 -- The calls on images: their branches are those of the definitions. Assumes nothing.
-use mathlib.Core.Path.{_≡_, refl, sym, ap, ap₂, _∙_}
-use mathlib.Core.Bool.{Bool, true, false, not, _&&_}
+use mathlib.Core.Path.{_≡_, refl, sym, ap, _∙_}
 use mathlib.Core.List.{List}
 use Prim.Native.Nat.{ℕ}
 use lib.Dec.{eqb}
 use lib.ListN.{length}
-use borrow.Author.Tests.{eq-eqb, ne-eqb, eqb-true}
+use borrow.Author.Tests.{eq-eqb, ne-eqb}
 use Rattle.octets.specs.Choice.{either}
 use Rattle.message.specs.declared.Message.{Message}
 use Rattle.message.specs.declared.Told.{Told}
@@ -14,16 +13,12 @@ use Rattle.message.proofs.Read.{meant-once}
 use Rattle.writing.specs.declared.Written.{Written}
 use Rattle.writing.specs.declared.Written.the-variants.{Whole, Refused}
 use Rattle.writing.specs.Write.{writtenOf, roomOf, refusalOf, lengthOf}
-use Rattle.session.specs.declared.Session.{Session}
-use Rattle.session.specs.Arrive.{Outcome}
-use Rattle.session.specs.Centre.{centreBegins}
 use Rattle.steps.specs.declared.Answer.{Answer}
-use Rattle.steps.specs.Sent.{sentOf, roomAfter, arrivalOf, lostOf}
+use Rattle.steps.specs.Called.{Called, called, arriveOn, beginOn}
 use Rattle.images.specs.Record.{recordSize, recordImage, recordAt}
-use Rattle.images.specs.Session.{sessionSize, sessionImage, isSession, sessionAt}
 use Rattle.chozukpima.specs.Packed.{packed, refusedWith}
 use Rattle.chozukpima.specs.Messages.{toldAnswer, imageAfter, ReadInto, writeAnswer, roomWritten}
-use Rattle.chozukpima.specs.Sessions.{Called, called, stepAnswer, sessionAfter, areImages, stepped, arriveOn, beginOn, lostAnswer, lostSession}
+use Rattle.chozukpima.specs.Sessions.{Returned, returned, stepAnswer, arriveReturns, beginReturns}
 
 -- what is told of a payload
 module _ (t : Told) (d : List ℕ) (r : ℕ) where
@@ -65,77 +60,25 @@ module _ (d room : List ℕ) (r : ℕ) where
     p .1 ∙ (ap (λ x. roomOf x room) e ∙ sym (simp (eq-eqb (length d) recordSize l))),
   )
 
--- a session is kept where the step was taken
-module _ (a : Answer) (d : List ℕ) (r : ℕ) where
-  pub keep-refused : (a .refusal ≡ 0 → ⊥) → r ≡ packed (a .refusal) (a .happened) (a .length) → (r ≡ stepAnswer a) × (d ≡ sessionAfter a d)
-  keep-refused h e = (e, sym (simp (ne-eqb (a .refusal) 0 h)))
+-- a step on a session, of a message that has its length or not
+module _ (m d room : List ℕ) (r : ℕ) where
+  pub arrive-short : (e : ℕ) (u g : List ℕ) → (length m ≡ recordSize → ⊥) → r ≡ refusedWith 15 → _≡_ {A = Returned} (returned r d room) (arriveReturns d m e u g room)
+  unfolding arriveReturns
+  arrive-short e u g h p = ap (λ x. returned x d room) p ∙ sym (simp (ne-eqb (length m) recordSize h))
 
-  pub keep-done : (after : List ℕ) → a .refusal ≡ 0 → length d ≡ sessionSize → r ≡ packed (a .refusal) (a .happened) (a .length)
-      → after ≡ either (eqb (length d) sessionSize) (λ _. sessionImage (a .session)) (λ _. d) → (r ≡ stepAnswer a) × (after ≡ sessionAfter a d)
-  keep-done after h l e p =
-      let q : either (eqb (length d) sessionSize) (λ _. sessionImage (a .session)) (λ _. d) ≡ sessionImage (a .session) = simp (eq-eqb (length d) sessionSize l) in
-      (e, p ∙ (q ∙ sym (simp (eq-eqb (a .refusal) 0 h))))
+  pub begin-short : (length m ≡ recordSize → ⊥) → r ≡ refusedWith 15 → _≡_ {A = Returned} (returned r d room) (beginReturns d m room)
+  unfolding beginReturns
+  begin-short h p = ap (λ x. returned x d room) p ∙ sym (simp (ne-eqb (length m) recordSize h))
 
-unset : (b : Bool) → not b ≡ true → b ≡ false
-unset true e = sym e
-unset false e = refl
+  module _ (x : Message) (k : x ≡ recordAt m) (l : length m ≡ recordSize) (after left : List ℕ) (a : Answer) (q : r ≡ stepAnswer a) where
+    pub arrive-whole : (e : ℕ) (u g : List ℕ) → _≡_ {A = Called} (called a after left) (arriveOn d x e u g room) → _≡_ {A = Returned} (returned r after left) (arriveReturns d m e u g room)
+    unfolding arriveReturns
+    arrive-whole e u g p =
+        ap (λ n. returned n after left) q ∙ ap (λ (c : Called). returned (stepAnswer (c .answer)) (c .session) (c .room)) (p ∙ ap (λ y. arriveOn d y e u g room) k)
+        ∙ sym (simp (eq-eqb (length m) recordSize l))
 
-set : (b : Bool) → not b ≡ false → b ≡ true
-set true e = refl
-set false e = sym e
-
-first-of : (a b : Bool) → a && b ≡ true → a ≡ true
-first-of true b e = refl
-first-of false b e = e
-
-pub session-long : (d : List ℕ) (b : Bool) → b ≡ isSession d → not b ≡ false → length d ≡ sessionSize
-session-long d b e h = eqb-true (length d) sessionSize (first-of (eqb (length d) sessionSize) _ (sym e ∙ set b h))
-
-pub images-long : (d m : List ℕ) (b : Bool) → b ≡ areImages d m → not b ≡ false → length d ≡ sessionSize
-images-long d m b e h = session-long d (isSession d) refl (ap not (first-of (isSession d) _ (sym e ∙ set b h)))
-
-module _ (d m room : List ℕ) (o : Outcome) (b : Bool) (e : b ≡ areImages d m) where
-  stepped-wrong : (r : ℕ) → not b ≡ true → r ≡ refusedWith 15 → _≡_ {A = Called} (called r d room) (stepped d m o room)
-  stepped-wrong r h p = ap (λ x. called x d room) p ∙ sym (simp (sym e ∙ unset b h))
-
-  stepped-right : (r : ℕ) (after left : List ℕ) (a : Answer) → not b ≡ false → a ≡ sentOf (sessionAt d) o room → left ≡ roomAfter o room
-      → (r ≡ stepAnswer a) × (after ≡ sessionAfter a d) → _≡_ {A = Called} (called r after left) (stepped d m o room)
-  stepped-right r after left a h f g q =
-      (λ i. called ((q .0 ∙ ap stepAnswer f) i) ((q .1 ∙ ap (λ x. sessionAfter x d) f) i) (g i)) ∙ sym (simp (sym e ∙ set b h))
-
-module _ (d m room u g : List ℕ) (n : ℕ) (b : Bool) (e : b ≡ areImages d m) where
-  pub arrive-wrong : (r : ℕ) → not b ≡ true → r ≡ refusedWith 15 → _≡_ {A = Called} (called r d room) (arriveOn d m n u g room)
-  unfolding arriveOn
-  arrive-wrong r h p = stepped-wrong d m room (arrivalOf (sessionAt d) (recordAt m) n u g) b e r h p
-
-  pub arrive-right : (r : ℕ) (after left : List ℕ) (a : Answer) (s : Session) (x : Message) → not b ≡ false → s ≡ sessionAt d → x ≡ recordAt m
-      → (a ≡ sentOf s (arrivalOf s x n u g) room) × (left ≡ roomAfter (arrivalOf s x n u g) room)
-      → (r ≡ stepAnswer a) × (after ≡ sessionAfter a d) → _≡_ {A = Called} (called r after left) (arriveOn d m n u g room)
-  unfolding arriveOn
-  arrive-right r after left a s x h f k p q =
-      stepped-right d m room (arrivalOf (sessionAt d) (recordAt m) n u g) b e r after left a h
-      (p .0 ∙ ap₂ (λ s x. sentOf s (arrivalOf s x n u g) room) f k) (p .1 ∙ ap₂ (λ s x. roomAfter (arrivalOf s x n u g) room) f k) q
-
-module _ (d m room : List ℕ) (b : Bool) (e : b ≡ areImages d m) where
-  pub begin-wrong : (r : ℕ) → not b ≡ true → r ≡ refusedWith 15 → _≡_ {A = Called} (called r d room) (beginOn d m room)
-  unfolding beginOn
-  begin-wrong r h p = stepped-wrong d m room (centreBegins (sessionAt d) (recordAt m)) b e r h p
-
-  pub begin-right : (r : ℕ) (after left : List ℕ) (a : Answer) (s : Session) (x : Message) → not b ≡ false → s ≡ sessionAt d → x ≡ recordAt m
-      → (a ≡ sentOf s (centreBegins s x) room) × (left ≡ roomAfter (centreBegins s x) room)
-      → (r ≡ stepAnswer a) × (after ≡ sessionAfter a d) → _≡_ {A = Called} (called r after left) (beginOn d m room)
-  unfolding beginOn
-  begin-right r after left a s x h f k p q =
-      stepped-right d m room (centreBegins (sessionAt d) (recordAt m)) b e r after left a h
-      (p .0 ∙ ap₂ (λ s x. sentOf s (centreBegins s x) room) f k) (p .1 ∙ ap₂ (λ s x. roomAfter (centreBegins s x) room) f k) q
-
-module _ (d : List ℕ) (b : Bool) (e : b ≡ isSession d) where
-  pub lost-wrong : (r : ℕ) → not b ≡ true → r ≡ refusedWith 15 → (r ≡ lostAnswer d) × (d ≡ lostSession d)
-  lost-wrong r h p = (p ∙ sym (simp (sym e ∙ unset b h)), sym (simp (sym e ∙ unset b h)))
-
-  pub lost-right : (r : ℕ) (after : List ℕ) (a : Answer) (s : Session) → not b ≡ false → s ≡ sessionAt d → a ≡ lostOf s
-      → (r ≡ stepAnswer a) × (after ≡ sessionAfter a d) → (r ≡ lostAnswer d) × (after ≡ lostSession d)
-  lost-right r after a s h f k q = (
-    q .0 ∙ (ap stepAnswer (k ∙ ap lostOf f) ∙ sym (simp (sym e ∙ set b h))),
-    q .1 ∙ (ap (λ x. sessionAfter x d) (k ∙ ap lostOf f) ∙ sym (simp (sym e ∙ set b h))),
-  )
+    pub begin-whole : _≡_ {A = Called} (called a after left) (beginOn d x room) → _≡_ {A = Returned} (returned r after left) (beginReturns d m room)
+    unfolding beginReturns
+    begin-whole p =
+        ap (λ n. returned n after left) q ∙ ap (λ (c : Called). returned (stepAnswer (c .answer)) (c .session) (c .room)) (p ∙ ap (λ y. beginOn d y room) k)
+        ∙ sym (simp (eq-eqb (length m) recordSize l))

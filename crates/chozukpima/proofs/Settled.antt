@@ -14,7 +14,8 @@ use Rattle.message.proofs.Read.{told-meant}
 use Rattle.images.specs.Record.{recordSize}
 use Rattle.chozukpima.specs.Packed.{frameAnswer, formAnswer, Told as Table}
 use Rattle.chozukpima.specs.Messages.{toldAnswer, imageAfter, ReadInto, writeAnswer, roomWritten}
-use Rattle.chozukpima.specs.Sessions.{Called, lostAnswer, lostSession}
+use Rattle.steps.specs.Called.{lostAnswer, lostSession}
+use Rattle.chozukpima.specs.Sessions.{Returned, stepAnswer}
 
 -- the answers on the bytes that arrived, which are lent to be read alone
 module _ (bytes : List ℕ) (r q : ℕ) where
@@ -28,14 +29,14 @@ module _ (bytes : List ℕ) (r q : ℕ) where
 pub table-settled : (d r q : Table) → r ≡ d → q ≡ d → r ≡ q
 table-settled d r q e f = e ∙ sym f
 
-pub called-settled : (d r q : Called) → r ≡ d → q ≡ d → r ≡ q
-called-settled d r q e f = e ∙ sym f
+pub returned-settled : (d r q : Returned) → r ≡ d → q ≡ d → r ≡ q
+returned-settled d r q e f = e ∙ sym f
 
 module _ (d room : List ℕ) where
   pub write-settled : (r q : ℕ) (a b : List ℕ) → (r ≡ writeAnswer d room) × (a ≡ roomWritten d room) → (q ≡ writeAnswer d room) × (b ≡ roomWritten d room) → (r ≡ q) × (a ≡ b)
   write-settled r q a b e f = (e .0 ∙ sym (f .0), e .1 ∙ sym (f .1))
 
-  pub lost-settled : (r q : ℕ) (a b : List ℕ) → (r ≡ lostAnswer d) × (a ≡ lostSession d) → (q ≡ lostAnswer d) × (b ≡ lostSession d) → (r ≡ q) × (a ≡ b)
+  pub lost-settled : (r q : ℕ) (a b : List ℕ) → (r ≡ stepAnswer (lostAnswer d)) × (a ≡ lostSession d) → (q ≡ stepAnswer (lostAnswer d)) × (b ≡ lostSession d) → (r ≡ q) × (a ≡ b)
   lost-settled r q a b e f = (e .0 ∙ sym (f .0), e .1 ∙ sym (f .1))
 
 -- an image of its length is answered by what the payload means, and every payload means something; any other is 15

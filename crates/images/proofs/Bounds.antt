@@ -1,7 +1,7 @@
 -- The loop over bytes that are to be below a bound, each law in the shape of a need of the code: what is known of the bytes passed, and the bytes
 -- from i on, answer for all of them. Assumes nothing.
-use mathlib.Core.Path.{_≡_, refl, sym, ap, _∙_}
-use mathlib.Core.Bool.{Bool, true, false, _&&_, and-true, and-assoc}
+use mathlib.Core.Path.{_≡_, sym, ap, _∙_}
+use mathlib.Core.Bool.{Bool, true, _&&_, and-true, and-assoc}
 use mathlib.Core.List.{List}
 use Prim.Native.Nat.{ℕ, _+_, _-_, _≤_, _<_}
 use native.Mathlib.Numerals.{add-one}
@@ -28,10 +28,3 @@ module _ (b : ℕ) (xs : List ℕ) (i : ℕ) where
     below-done h = sym (and-true ok) ∙ (ap (λ (t : Bool). ok && t) (sym (below-end h)) ∙ e)
 
 pub ruleset belows = (below-next, below-done, arith)
-
--- a list of one number, twice among the tests of a session
-pub four-tests : (a b c d : Bool) → ((a && b) && c) && d ≡ a && ((b && true) && ((c && true) && d))
-four-tests true true true d = refl
-four-tests true true false d = refl
-four-tests true false c d = refl
-four-tests false b c d = refl

@@ -9,8 +9,5 @@ pub mod Marks
 pub mod Bounds
 pub mod Typed
 pub mod Records
-pub mod Entries
-pub mod TypedSession
 pub mod Marred
-pub mod Sessions
 pub mod Settled

@@ -8,7 +8,7 @@ use Rattle.images.specs.Lists.{markByte, isSet}
 use Rattle.images.specs.Record.{allBelow}
 use Rattle.images.proofs.Standing.{Small}
 
-pub mark-back : (b : Bool) → isSet (markByte b) ≡ b
+mark-back : (b : Bool) → isSet (markByte b) ≡ b
 mark-back true = refl
 mark-back false = refl
 

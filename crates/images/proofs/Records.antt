@@ -9,11 +9,12 @@ use lib.ListN.{length, getD, drop, replicate}
 use mir.Syntax.{w32}
 use mir.Val.{Val}
 use Rattle.octets.specs.Choice.{either}
+use Rattle.octets.proofs.Signs.{signed-back}
 use Rattle.message.specs.declared.Message.{Message}
 use Rattle.images.specs.Lists.{numberParts, numbersAt, bitsOf, signedOf, realBits, realOf, markByte, isSet}
 use Rattle.images.specs.Record.{wordsOf, idsOf, realsOf, countsOf, shortsOf, smallsOf, marksOf, runsOf, recordParts, recordImage, allBelow, isRecord, recordFrom, smallsAt, recordAt}
 use Rattle.images.proofs.Standing.{Stand, stand-all, stand-end, behind, run-here, numbers-here, numbers-behind}
-use Rattle.images.proofs.Signs.{signed-back, ids-below, ids-back}
+use Rattle.images.proofs.Signs.{ids-below, ids-back}
 use Rattle.images.proofs.Figures.{reals-below, reals-back}
 use Rattle.images.proofs.Marks.{marks-back, marks-small, marks-below}
 use Rattle.images.proofs.Typed.{Typed, ids-fit, code-fits, reals-held, sn-bs-uuid-long, sn-sc-uuid-long, message-long, profile-long, sign-long, nwk-sn-key-long, user-data-long, words-small, counts-small, shorts-small, smalls-small}

@@ -12,17 +12,18 @@ use denote.Plain.{UInt}
 use denote.Shadow.{shadow}
 use denote.Struct.Declared.{row}
 use borrow.Author.Needs.{length-unmapped}
+use Rattle.octets.proofs.Signs.{bits-fit}
 use Rattle.message.specs.declared.Message.{Message}
 use Rattle.message.proofs.Message.{the-type}
 use Rattle.images.specs.Record.{wordsOf, idsOf, realsOf, countsOf, shortsOf, smallsOf}
-use Rattle.images.proofs.Signs.{AllFit, bits-fit}
+use Rattle.images.proofs.Signs.{AllFit}
 use Rattle.images.proofs.Figures.{Held}
 use Rattle.images.proofs.Standing.{Small}
 
 abbrev pub Typed : Message → List Val → Type 0
 Typed m vs = Is (row the-type) m vs
 
-pub array-long : (n : ℕ) (d : List ℕ) (vs : List Val) → shadow (inArray ℕ (UInt w8 .own) n (map (λ (v : ℕ). v) d) vs) → length d ≡ n
+array-long : (n : ℕ) (d : List ℕ) (vs : List Val) → shadow (inArray ℕ (UInt w8 .own) n (map (λ (v : ℕ). v) d) vs) → length d ≡ n
 array-long n d vs p = length-unmapped ℕ d n (p .1 .0 .1)
 
 module _ (m : Message) (vs : List Val) (g : Typed m vs) where

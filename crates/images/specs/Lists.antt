@@ -1,13 +1,13 @@
 -- Lists of numbers as bytes, little endian, and back.
-use Prim.Native.Nat.{ℕ, zero, suc, _+_, _-_, _^_}
+use Prim.Native.Nat.{ℕ, zero, suc, _+_}
 use mathlib.Core.Bool.{Bool, not}
 use mathlib.Core.List.{List, [], _∷_}
-use lib.Dec.{eqb, ltb}
-use lib.IntN.{ℤ, pos, negsuc}
+use lib.Dec.{eqb}
 use lib.Ieee.{Float, binary64, ofBits, toBits}
 use Rattle.octets.specs.Choice.{either}
 use Rattle.octets.specs.Number.{littleAt, ifThere}
 use Rattle.octets.specs.Bytes.{littleBytes}
+pub use Rattle.octets.specs.Signed.{bitsOf, signedOf}
 
 -- each number in n bytes of its own
 unfoldable pub numberParts : ℕ → List ℕ → List (List ℕ)
@@ -18,14 +18,6 @@ numberParts n (x ∷ xs) = littleBytes n x ∷ numberParts n xs
 unfoldable pub numbersAt : List ℕ → ℕ → ℕ → ℕ → List ℕ
 numbersAt d at n zero = []
 numbersAt d at n (suc k) = ifThere d at n (littleAt d at n) ∷ numbersAt d (at + n) n k
-
--- a signed number as its w bits, and back
-abbrev pub bitsOf : ℕ → ℤ → ℕ
-bitsOf w (pos n) = n
-bitsOf w (negsuc k) = 2 ^ w - suc k
-
-abbrev pub signedOf : ℕ → ℕ → ℤ
-signedOf w n = either (ltb n (2 ^ (w - 1))) (λ _. pos n) (λ _. negsuc (2 ^ w - suc n))
 
 abbrev pub realBits : Float → ℕ
 realBits x = toBits binary64 x

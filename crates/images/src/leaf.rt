@@ -26,16 +26,6 @@ pub fn mark_bits(x: bool) -> u64
     if x { 1 } else { 0 }
 }
 
-// A signed number as its 64 bits.
-pub fn bits64(z: i64) -> u64
-    ensures { λ r. ⌜ r ≡ bitsOf 64 z ⌝ }
-{
-    if z < 0 {
-        return 0xFFFF_FFFF_FFFF_FFFF - ((-1 - z) as u64);
-    }
-    z as u64
-}
-
 // A signed number as its 32 bits.
 pub fn bits32(z: i32) -> u64
     ensures { λ r. ⌜ r ≡ bitsOf 32 z ⌝ }
@@ -44,17 +34,6 @@ pub fn bits32(z: i32) -> u64
         return 0xFFFF_FFFF - ((-1 - z) as u64);
     }
     z as u64
-}
-
-// A signed number from its 64 bits.
-pub fn signed64(w: u64) -> i64
-    ensures { λ r. ⌜ r ≡ signedOf 64 w ⌝ }
-{
-    if w < 0x8000_0000_0000_0000 {
-        return w as i64;
-    }
-    let k = 0xFFFF_FFFF_FFFF_FFFF - w;
-    -1 - (k as i64)
 }
 
 // A signed number from its 32 bits.

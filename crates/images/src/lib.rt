@@ -1,20 +1,11 @@
-// Records and sessions as bytes for a host in C, and back. No call has a requirement.
-mod kept;
+// Records as bytes for a host in C, and back. No call has a requirement.
 mod leaf;
 mod list;
 mod record;
 mod taken;
 
 use field::Position;
-use kept::entries_at;
-use kept::put_kinds;
-use kept::put_open;
-use kept::put_state;
-use kept::put_uuids;
-use kept::state_of;
 use leaf::signed32;
-use leaf::signed64;
-use list::all_below;
 use message::MaybeId;
 use message::MaybePosition;
 use message::MaybeReal;
@@ -22,16 +13,13 @@ use message::MaybeVersion;
 use message::MaybeWord;
 use message::Message;
 use message::Signal;
-use octets::little_at;
+use octets::signed_of;
 use record::put_data;
 use record::put_long;
 use record::put_names;
 use record::put_short;
-use session::Session;
 use taken::bytes4;
 use taken::bytes5;
-use taken::bytes6;
-use taken::bytes8;
 use taken::bytes16;
 use taken::bytes19;
 use taken::bytes64;
@@ -47,7 +35,6 @@ ghost use mathlib.Core.Path.{_≡_};
 ghost use lib.Dec.{eqb};
 ghost use lib.ListN.{length};
 ghost use Rattle.octets.specs.Choice.{either};
-ghost use Rattle.images.specs.Session.{sessionSize, sessionImage, isSession, sessionAt};
 ghost use Rattle.images.specs.Record.{recordSize, recordImage, recordAt};
 
 // A record into a room of its size; any other room stays as it is.
@@ -83,7 +70,7 @@ pub fn record_in(d: &[u8]) -> Message
     let user_data = bytes245(d, 336);
     Message {
         command: smalls[0],
-        op_id: signed64(ids[0]),
+        op_id: signed_of(ids[0]),
         version: MaybeVersion {
             here: marks[0] != 0,
             major: shorts[0],
@@ -103,11 +90,11 @@ pub fn record_in(d: &[u8]) -> Message
         sn_bs_uuid: sn_bs_uuid,
         sn_bs_op_id: MaybeId {
             here: marks[3] != 0,
-            value: signed64(ids[1]),
+            value: signed_of(ids[1]),
         },
         sn_sc_op_id: MaybeId {
             here: marks[4] != 0,
-            value: signed64(ids[2]),
+            value: signed_of(ids[2]),
         },
         sc_eui: words[1],
         sn_resume: marks[5] != 0,
@@ -163,48 +150,4 @@ pub fn record_in(d: &[u8]) -> Message
         response_exp: marks[17] != 0,
         dl_ack: marks[18] != 0,
     }
-}
-
-// A session into a room of its size; any other room stays as it is.
-pub fn put_session(room: &mut [u8], s: Session)
-    ensures { λ _. ⌜ now (room .exit) ≡ either (eqb (length (now (room .entry))) sessionSize) (λ _. sessionImage s) (λ _. now (room .entry)) ⌝ }
-{
-    if room.len() == 352 {
-        let a = put_open(room, 0, s);
-        let b = put_kinds(room, a, s);
-        let c = put_uuids(room, b, s);
-        put_state(room, c, s);
-    }
-}
-
-// The session of an image; of other bytes some session.
-pub fn session_in(d: &[u8]) -> Session
-    ensures { λ r. ⌜ r ≡ sessionAt (now (d .entry)) ⌝ }
-{
-    let last = bytes8(d, 344);
-    let sn_bs_uuid = bytes16(d, 312);
-    let sn_sc_uuid = bytes16(d, 328);
-    let station = entries_at(d, 24, 280);
-    let centre = entries_at(d, 152, 296);
-    Session {
-        state: state_of(last[0]),
-        stored: last[1] != 0,
-        bs_eui: little_at(d, 0, 8),
-        sn_bs_uuid: sn_bs_uuid,
-        sn_sc_uuid: sn_sc_uuid,
-        highest: signed64(little_at(d, 8, 8)),
-        lowest: signed64(little_at(d, 16, 8)),
-        station: station,
-        centre: centre,
-    }
-}
-
-// The image of some session: any other is to be refused.
-pub fn is_session(d: &[u8]) -> bool
-    ensures { λ r. ⌜ r ≡ isSession (now (d .entry)) ⌝ }
-{
-    let last = bytes8(d, 344);
-    let zeros = bytes6(d, 346);
-    let ok = all_below(1, &zeros);
-    (d.len() == 352) & (last[0] < 3) & (last[1] < 2) & ok
 }

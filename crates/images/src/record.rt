@@ -1,6 +1,5 @@
 // The parts of a record one behind the other, as its image has them.
 use crate::leaf::bits32;
-use crate::leaf::bits64;
 use crate::leaf::mark_bits;
 use crate::leaf::real_bits;
 use crate::leaf::wide8;
@@ -9,6 +8,7 @@ use crate::leaf::wide32;
 use crate::list::put_numbers;
 use forms::put_run;
 use message::Message;
+use octets::bits_of;
 ghost use mathlib.Core.Path.{_≡_};
 ghost use mathlib.Core.List.{_++_, map};
 ghost use lib.ListN.{take, drop};
@@ -35,9 +35,9 @@ fn put_ids(room: &mut [u8], at: usize, m: Message) -> usize
     ensures { λ r. ⌜ _≡_ {A = Put} (put (now (room .exit)) r) (putParts (numberParts 8 (map (bitsOf 64) (idsOf m))) (put (now (room .entry)) at)) ⌝ }
 {
     let xs = [
-        bits64(m.op_id),
-        bits64(m.sn_bs_op_id.value),
-        bits64(m.sn_sc_op_id.value),
+        bits_of(m.op_id),
+        bits_of(m.sn_bs_op_id.value),
+        bits_of(m.sn_sc_op_id.value),
     ];
     put_numbers(room, at, 8, &xs)
 }

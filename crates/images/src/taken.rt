@@ -37,22 +37,6 @@ pub fn bytes5(d: &[u8], at: usize) -> [u8; 5]
     a
 }
 
-pub fn bytes6(d: &[u8], at: usize) -> [u8; 6]
-    ensures { λ r. ⌜ r ≡ numbersAt (now (d .entry)) at 1 6 ⌝ }
-{
-    let mut a = [0u8; 6];
-    take_bytes(d, at, &mut a);
-    a
-}
-
-pub fn bytes8(d: &[u8], at: usize) -> [u8; 8]
-    ensures { λ r. ⌜ r ≡ numbersAt (now (d .entry)) at 1 8 ⌝ }
-{
-    let mut a = [0u8; 8];
-    take_bytes(d, at, &mut a);
-    a
-}
-
 pub fn bytes16(d: &[u8], at: usize) -> [u8; 16]
     ensures { λ r. ⌜ r ≡ numbersAt (now (d .entry)) at 1 16 ⌝ }
 {

@@ -10,9 +10,9 @@ use lib.Dec.{eqb}
 use lib.IntN.{ℤ, pos}
 use lib.ListN.{length, getD}
 use Rattle.octets.proofs.Ranges.{true-false}
-use Rattle.session.specs.declared.Entry.{Entry}
-use Rattle.session.specs.Place.{sameId, isFree, matches, freePlace, placeOf, entry, noEntry, taken, freed}
-use Rattle.session.proofs.Places.{openIn, first-passes, open-taken, open-freed, open-few}
+use Rattle.session.specs.Session.{Entry}
+use Rattle.session.specs.Place.{sameId, isFree, matches, freePlace, placeOf, entry, noEntry, taken, freed, openIn}
+use Rattle.session.proofs.Places.{first-passes, open-taken, open-freed, open-few}
 
 not-free : (z : ℤ) (k : ℕ) (e : Entry) → matches z k e ≡ true → isFree e ≡ false
 not-free z k e t = go (isFree e) t

@@ -2,9 +2,8 @@
 use mathlib.Core.Path.{_≡_}
 use mathlib.Core.Bool.{false}
 use Rattle.message.specs.declared.Message.{Message}
-use Rattle.session.specs.declared.State.the-variants.{Waiting}
-use Rattle.session.specs.declared.Session.{Session}
-use Rattle.session.specs.declared.Host.{Host}
+use Rattle.session.specs.Session.{Session, Host}
+use Rattle.session.specs.Session.State.{Waiting}
 use Rattle.session.specs.Arrive.{resumes, inWaiting, arrives}
 
 pub nothing-left : (s t : Session) (m : Message) (h : Host) → s .state ≡ Waiting → t .state ≡ Waiting → resumes s m ≡ false → resumes t m ≡ false → arrives s m h ≡ arrives t m h

@@ -3,12 +3,6 @@ pub mod Places
 pub mod Moves
 pub mod Rising
 pub mod Entries
-pub mod Searching
-pub mod Typed
-pub mod Knowing
-pub mod Choosing
-pub mod Steps
-pub mod States
-pub mod Connecting
-pub mod Issuing
-pub mod Replies
+pub mod Counting
+pub mod Image
+pub mod Stored

@@ -12,11 +12,8 @@ use Rattle.octets.specs.Choice.{either}
 use Rattle.names.specs.Names.{bytes, commandOf}
 use Rattle.message.specs.declared.Message.{Message}
 use Rattle.saying.specs.Fits.{fits}
-use Rattle.session.specs.declared.State.{State}
-use Rattle.session.specs.declared.State.the-variants.{Waiting, Connecting, Open}
-use Rattle.session.specs.declared.Entry.{Entry}
-use Rattle.session.specs.declared.Session.{Session}
-use Rattle.session.specs.declared.Host.{Host}
+use Rattle.session.specs.Session.{State, Entry, Session, Host}
+use Rattle.session.specs.Session.State.{Waiting, Connecting, Open}
 use Rattle.session.specs.Place.{sameId, placeOf, freed}
 use Rattle.session.specs.Kinds.{Operation}
 use Rattle.session.specs.Happened.{isBegun, isResumed, isOpened}
@@ -48,7 +45,7 @@ module _ (f : Session → ℤ) (S : Steady f) (s : Session) where
     Waited o = ((hasBegun o ≡ true) × (reached s o ≡ begun h m)) ⊎ ((hasBegun o ≡ false) × (f (reached s o) ≡ f s))
 
     waits : (g a b c d : Bool) → Waited (either g (λ _. either a (λ _. either b (λ _. either c (λ _. either d
-        (λ _. Outcome.replies isResumed (resumed s) (conRspOf h true (s .«sn_sc_uuid»))) (λ _. Outcome.replies isBegun (begun h m) (conRspOf h false (h .uuid))))
+        (λ _. Outcome.replies isResumed (resumed s) (conRspOf h true (s .snScUuid))) (λ _. Outcome.replies isBegun (begun h m) (conRspOf h false (h .uuid))))
         (λ _. Outcome.refused 16)) (λ _. Outcome.refused 18)) (λ _. Outcome.refused 17)) (λ _. Outcome.refused 15))
     waits true true true true true = inr (refl, S .resuming s)
     waits true true true true false = inl (refl, refl)

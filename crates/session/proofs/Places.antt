@@ -8,13 +8,8 @@ use Prim.Native.Nat.{ℕ, zero, suc, _+_, _-_, _≤_, _<_}
 use native.Mathlib.Omega.{arith}
 use lib.ListN.{length, set, getD}
 use Rattle.octets.specs.Choice.{either}
-use Rattle.session.specs.declared.Entry.{Entry}
-use Rattle.session.specs.Place.{isFree, noEntry, firstFrom}
-
--- how many entries are open
-abbrev pub openIn : List Entry → ℕ
-openIn [] = 0
-openIn (e ∷ t) = either (isFree e) (λ _. openIn t) (λ _. suc (openIn t))
+use Rattle.session.specs.Session.{Entry}
+use Rattle.session.specs.Place.{isFree, noEntry, firstFrom, openIn}
 
 some-is : {a b : ℕ} → some a ≡ some b → a ≡ b
 some-is e = cc

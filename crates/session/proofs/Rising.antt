@@ -13,10 +13,8 @@ use borrow.Author.Tests.{le-ltb}
 use Rattle.octets.specs.Choice.{either}
 use Rattle.message.specs.declared.Message.{Message}
 use Rattle.saying.specs.Fits.{fits}
-use Rattle.session.specs.declared.State.{State}
-use Rattle.session.specs.declared.State.the-variants.{Waiting, Connecting, Open}
-use Rattle.session.specs.declared.Session.{Session}
-use Rattle.session.specs.declared.Host.{Host}
+use Rattle.session.specs.Session.{State, Session, Host}
+use Rattle.session.specs.Session.State.{Waiting, Connecting, Open}
 use Rattle.session.specs.Place.{sameId, freePlace, taken}
 use Rattle.session.specs.Kinds.{Operation, stationStarts, centreStarts, operationBy}
 use Rattle.session.specs.Arrive.{Outcome, below, highestOf, lowestOf, resumes, withCentre, startAt, orElse, inOpen, whenOpen, inState, arrives}

@@ -15,11 +15,8 @@ use Rattle.message.specs.Record.{messageOf, blank}
 use Rattle.message.specs.declared.MaybeId.{MaybeId}
 use Rattle.message.specs.declared.Message.{Message}
 use Rattle.saying.specs.Fits.{fits}
-use Rattle.session.specs.declared.State.{State}
-use Rattle.session.specs.declared.State.the-variants.{Waiting, Connecting, Open}
-use Rattle.session.specs.declared.Entry.{Entry}
-use Rattle.session.specs.declared.Session.{Session}
-use Rattle.session.specs.declared.Host.{Host}
+use Rattle.session.specs.Session.{State, Entry, Session, Host}
+use Rattle.session.specs.Session.State.{Waiting, Connecting, Open}
 use Rattle.session.specs.Place.{sameId, freePlace, placeOf, taken, freed, allFree}
 use Rattle.session.specs.Kinds.{Operation, stationStarts, centreStarts, operationBy}
 use Rattle.session.specs.Happened.{isBegun, isResumed, isOpened, isStarted, isCompleted, isAnswered}
@@ -57,7 +54,7 @@ conRspOf h resumed uuid =
     messageOf (commandOf (bytes "conRsp"))
     (saying (saying (saying (saying (bare (pos 0))
     (bytes "version") (Value.release 1 0 0))
-    (bytes "scEui") (Value.number (pos (h .«sc_eui»))))
+    (bytes "scEui") (Value.number (pos (h .scEui))))
     (bytes "snResume") (Value.mark resumed))
     (bytes "snScUuid") (Value.string uuid))
 
@@ -73,26 +70,29 @@ rspOf h c z = either (eqb c (commandOf (bytes "detRsp"))) (λ _. detRspOf z (h .
 abbrev pub resumes : Session → Message → Bool
 resumes s m =
     s .stored
-    && (eqb (s .«bs_eui») (m .«bs_eui»)
-    && (sameBytes (s .«sn_bs_uuid») (m .«sn_bs_uuid»)
+    && (eqb (s .bsEui) (m .«bs_eui»)
+    && (sameBytes (s .snBsUuid) (m .«sn_bs_uuid»)
     && ((not (m .«sn_bs_op_id» .here) || not (below (highestOf s) (m .«sn_bs_op_id» .value)))
     && (not (m .«sn_sc_op_id» .here) || not (below (m .«sn_sc_op_id» .value) (lowestOf s))))))
 
 -- the session as it is, in another state, stored or not
 abbrev pub moved : State → Bool → Session → Session
-moved x b s = record { state = x; stored = b; «bs_eui» = s .«bs_eui»; «sn_bs_uuid» = s .«sn_bs_uuid»; «sn_sc_uuid» = s .«sn_sc_uuid»; highest = s .highest; lowest = s .lowest; station = s .station; centre = s .centre }
+moved x b s = record { state = x; stored = b; bsEui = s .bsEui; snBsUuid = s .snBsUuid; snScUuid = s .snScUuid; highest = s .highest; lowest = s .lowest; station = s .station; centre = s .centre }
 
 abbrev pub resumed : Session → Session
 resumed s = moved Connecting (s .stored) s
 
 -- IDs and open operations cleared; bsEui, snBsUuid and the host's new UUID taken
+abbrev pub begunWith : ℕ → List ℕ → List ℕ → Session
+begunWith eui bsUuid scUuid = record { state = Connecting; stored = false; bsEui = eui; snBsUuid = bsUuid; snScUuid = scUuid; highest = pos 0; lowest = pos 0; station = allFree; centre = allFree }
+
 abbrev pub begun : Host → Message → Session
-begun h m = record { state = Connecting; stored = false; «bs_eui» = m .«bs_eui»; «sn_bs_uuid» = m .«sn_bs_uuid»; «sn_sc_uuid» = h .uuid; highest = pos 0; lowest = pos 0; station = allFree; centre = allFree }
+begun h m = begunWith (m .«bs_eui») (m .«sn_bs_uuid») (h .uuid)
 
 abbrev pub connects : Session → Message → Host → Outcome
 connects s m h =
     either (resumes s m)
-    (λ _. Outcome.replies isResumed (resumed s) (conRspOf h true (s .«sn_sc_uuid»)))
+    (λ _. Outcome.replies isResumed (resumed s) (conRspOf h true (s .snScUuid)))
     (λ _. Outcome.replies isBegun (begun h m) (conRspOf h false (h .uuid)))
 
 -- waiting takes only con; tests 17, 18 (opId must be 0), 16
@@ -115,10 +115,10 @@ inConnecting s m =
     either (eqb (m .command) (commandOf (bytes "conCmp")) && sameId (m .«op_id») (pos 0)) (λ _. Outcome.silent isOpened (opened s)) (λ _. Outcome.refused 17)
 
 abbrev pub withStation : Session → ℤ → List Entry → Session
-withStation s z t = record { state = s .state; stored = s .stored; «bs_eui» = s .«bs_eui»; «sn_bs_uuid» = s .«sn_bs_uuid»; «sn_sc_uuid» = s .«sn_sc_uuid»; highest = z; lowest = s .lowest; station = t; centre = s .centre }
+withStation s z t = record { state = s .state; stored = s .stored; bsEui = s .bsEui; snBsUuid = s .snBsUuid; snScUuid = s .snScUuid; highest = z; lowest = s .lowest; station = t; centre = s .centre }
 
 abbrev pub withCentre : Session → ℤ → List Entry → Session
-withCentre s z t = record { state = s .state; stored = s .stored; «bs_eui» = s .«bs_eui»; «sn_bs_uuid» = s .«sn_bs_uuid»; «sn_sc_uuid» = s .«sn_sc_uuid»; highest = s .highest; lowest = z; station = s .station; centre = t }
+withCentre s z t = record { state = s .state; stored = s .stored; bsEui = s .bsEui; snBsUuid = s .snBsUuid; snScUuid = s .snScUuid; highest = s .highest; lowest = z; station = s .station; centre = t }
 
 -- a station starts with an ID above the highest known and above 0 (18), with a free place (19); the reply is the Rsp
 abbrev pub startAt : Session → Host → Operation → ℤ → Option ℕ → Outcome

@@ -6,9 +6,8 @@ use lib.IntN.{ℤ, pos, negsuc}
 use Rattle.octets.specs.Choice.{either}
 use Rattle.message.specs.declared.Message.{Message}
 use Rattle.saying.specs.Fits.{fits}
-use Rattle.session.specs.declared.State.{State}
-use Rattle.session.specs.declared.State.the-variants.{Waiting, Connecting, Open}
-use Rattle.session.specs.declared.Session.{Session}
+use Rattle.session.specs.Session.{State, Session}
+use Rattle.session.specs.Session.State.{Waiting, Connecting, Open}
 use Rattle.session.specs.Place.{sameId, freePlace, taken}
 use Rattle.session.specs.Kinds.{Operation, centreStarts, operationBy}
 use Rattle.session.specs.Happened.{isIssued}

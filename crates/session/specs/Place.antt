@@ -8,7 +8,7 @@ use lib.Dec.{eqb}
 use lib.IntN.{ℤ, pos, negsuc}
 use lib.ListN.{set, replicate}
 use Rattle.octets.specs.Choice.{either}
-use Rattle.session.specs.declared.Entry.{Entry}
+use Rattle.session.specs.Session.{Entry}
 
 abbrev pub sameId : ℤ → ℤ → Bool
 sameId (pos a) (pos b) = eqb a b
@@ -52,3 +52,8 @@ freed t i = set t i noEntry
 
 abbrev pub allFree : List Entry
 allFree = replicate 16 noEntry
+
+-- how many entries are open
+abbrev pub openIn : List Entry → ℕ
+openIn [] = 0
+openIn (e ∷ t) = either (isFree e) (λ _. openIn t) (λ _. suc (openIn t))

@@ -1,4 +1,5 @@
 -- Runs of a session: records that arrive, operations that the centre begins, lost connections, refused ones among them.
+use Prim.Native.Nat.{ℕ, suc, _-_}
 use mathlib.Core.Bool.{Bool, true, false, _&&_}
 use mathlib.Core.List.{List, [], _∷_}
 use mathlib.Core.Option.{Option, some, none}
@@ -6,12 +7,10 @@ use lib.IntN.{ℤ, pos}
 use lib.Dec.{T, eqb}
 use Rattle.octets.specs.Choice.{either}
 use Rattle.message.specs.declared.Message.{Message}
-use Rattle.session.specs.declared.State.{State}
-use Rattle.session.specs.declared.State.the-variants.{Waiting, Connecting, Open}
-use Rattle.session.specs.declared.Session.{Session}
-use Rattle.session.specs.declared.Host.{Host}
+use Rattle.session.specs.Session.{State, Session, Host}
+use Rattle.session.specs.Session.State.{Waiting, Connecting, Open}
 use Rattle.session.specs.Kinds.{Operation, stationStarts, operationBy}
-use Rattle.session.specs.Happened.{isBegun}
+use Rattle.session.specs.Happened.{isBegun, isStarted, isCompleted, isAnswered, isIssued, isStored, isNothing}
 use Rattle.session.specs.Arrive.{Outcome, below, highestOf, lowestOf, arrives}
 use Rattle.session.specs.Centre.{centreBegins, oneBelow, lost}
 
@@ -95,3 +94,41 @@ Rising s es = Ordered below acceptedIn (highestOf s) s es
 
 abbrev pub Falling : Session → List Event → Type 0
 Falling s es = Ordered (λ a z. below z a) issuedIn (lowestOf s) s es
+
+-- what happened in a step; 0 where it was refused
+abbrev pub happenedOf : Outcome → ℕ
+happenedOf (Outcome.refused n) = 0
+happenedOf (Outcome.silent w t) = w
+happenedOf (Outcome.replies w t m) = w
+
+abbrev pub lossOf : State → ℕ
+lossOf Waiting = isNothing
+lossOf Connecting = isStored
+lossOf Open = isStored
+
+abbrev pub happenedIn : Session → Event → ℕ
+happenedIn s (Event.arrival m h) = happenedOf (arrives s m h)
+happenedIn s (Event.beginning m) = happenedOf (centreBegins s m)
+happenedIn s Event.loss = lossOf (s .state)
+
+-- how many operations of a side are open after a step: a start takes exactly one entry, a Cmp or Rsp frees exactly one, a new session has none
+abbrev pub countAfter : ℕ → ℕ → ℕ → ℕ → ℕ
+countAfter started ended w n =
+    either (eqb w started) (λ _. suc n)
+    (λ _. either (eqb w ended) (λ _. n - 1)
+    (λ _. either (eqb w isBegun) (λ _. 0) (λ _. n)))
+
+abbrev pub stationAfter : ℕ → ℕ → ℕ
+stationAfter w n = countAfter isStarted isCompleted w n
+
+abbrev pub centreAfter : ℕ → ℕ → ℕ
+centreAfter w n = countAfter isIssued isAnswered w n
+
+-- the session after a run, and what a count has become by then
+unfoldable pub afterAll : Session → List Event → Session
+afterAll s [] = s
+afterAll s (e ∷ es) = afterAll (after s e) es
+
+unfoldable pub countAll : (ℕ → ℕ → ℕ) → Session → List Event → ℕ → ℕ
+countAll count s [] n = n
+countAll count s (e ∷ es) n = countAll count (after s e) es (count (happenedIn s e) n)

@@ -1,2 +1,3 @@
-pub mod Sent
-pub mod Taken
+pub mod Lies
+pub mod Called
+pub mod Reply

@@ -1,117 +1,124 @@
-// The calls of a session: a record arrives, the centre begins an operation, the connection is lost. The reply is written into a lent room.
-mod host;
+// The calls of a session, stepped where it lies: in the bytes that the host lends. A step reads what it looks at, writes its reply into the lent room
+// if it has one, and stores what it changes only then, so that 20 is last and no step.
+mod bytes;
+mod connect;
+mod issue;
+mod lies;
+mod operate;
+mod places;
+mod reply;
+mod stored;
 
-use host::host_of;
+use lies::OPEN;
+use lies::STATE;
+use lies::STORED;
+use lies::WAITING;
+use lies::is_session;
 use message::Message;
-use session::Session;
-use session::State;
-use session::Step;
-use writing::Written;
 ghost use mathlib.Core.Path.{_≡_};
-ghost use Rattle.writing.specs.Write.{writtenOf, roomOf};
-ghost use Rattle.session.specs.Centre.{centreBegins};
-ghost use Rattle.steps.specs.Sent.{refusedAs, doneAs, written, sentOf, roomAfter, arrivalOf, lostOf, lossOf};
-ghost use Rattle.steps.specs.Taken.{answerOf, roomLeft};
+ghost use lib.ListN.{length};
+ghost use Rattle.session.specs.Arrive.{inState};
+ghost use Rattle.session.specs.Image.{sessionAt};
+ghost use Rattle.steps.specs.Lies.{Lies};
+ghost use Rattle.steps.specs.Called.{Called, called, refusedAs, doneAs, calledBy, hostOf, arriveOn, beginOn, lostAnswer, lostSession};
 
-// Document 01's number, zeros besides and the session as it was; or what happened, how many bytes stand in the room, and the session after it.
+// Document 01's number and zeros besides; or what happened, and how many bytes stand in the room.
 pub struct Answer {
     pub refusal: u8,
     pub happened: u8,
     pub length: usize,
-    pub session: Session,
 }
 
-// A record arrives, with what the host lends for the reply: its scEui, a new UUID of 16 bytes, a sign of 4. A refused step changes neither the
-// session nor the room: 15, then 17, 18, 19 (waiting: 17, 18, 16), 20 last.
+fn refused(number: u8) -> Answer
+    ensures { λ r. ⌜ r ≡ refusedAs number ⌝ }
+{
+    Answer {
+        refusal: number,
+        happened: 0,
+        length: 0,
+    }
+}
+
+fn done(happened: u8, length: usize) -> Answer
+    ensures { λ r. ⌜ r ≡ doneAs happened length ⌝ }
+{
+    Answer {
+        refusal: 0,
+        happened,
+        length,
+    }
+}
+
+// A record arrives, with what the host lends for the reply: its scEui, a new UUID of 16 bytes, a sign of 4. 15, then 17, 18, 19 (waiting: 17, 18,
+// 16), 20 last. A refused step changes neither the session nor the room.
 pub fn arrive(
-    s: Session,
+    d: &mut [u8],
     m: Message,
     sc_eui: u64,
     uuid: &[u8],
     sign: &[u8],
     room: &mut [u8],
 ) -> Answer
-    ensures { λ r. ⌜ (r ≡ sentOf s (arrivalOf s m «sc_eui» (now (uuid .entry)) (now (sign .entry))) (now (room .entry)))
-        × (now (room .exit) ≡ roomAfter (arrivalOf s m «sc_eui» (now (uuid .entry)) (now (sign .entry))) (now (room .entry))) ⌝ }
+    ensures { λ r. ⌜ _≡_ {A = Called} (called r (now (d .exit)) (now (room .exit))) (arriveOn (now (d .entry)) m «sc_eui» (now (uuid .entry)) (now (sign .entry)) (now (room .entry))) ⌝ }
 {
+    if !is_session(d) {
+        return refused(15);
+    }
     if (uuid.len() != 16) | (sign.len() != 4) {
-        return refused(s, 15);
+        return refused(15);
     }
-    let h = host_of(sc_eui, uuid, sign);
-    send(s, session::arrive(s, m, h), room)
-}
-
-// The centre begins an operation: its record is written under the ID issued. 17, 18, 19, 15, 20.
-pub fn begin(s: Session, m: Message, room: &mut [u8]) -> Answer
-    ensures { λ r. ⌜ (r ≡ sentOf s (centreBegins s m) (now (room .entry))) × (now (room .exit) ≡ roomAfter (centreBegins s m) (now (room .entry))) ⌝ }
-{
-    send(s, session::begin(s, m), room)
-}
-
-// The connection is lost: a session that was connecting or open is stored and waits.
-pub fn lose(s: Session) -> Answer
-    ensures { λ r. ⌜ r ≡ lostOf s ⌝ }
-{
-    done(loss(s), 0, session::lose(s))
-}
-
-fn loss(s: Session) -> u8
-    ensures { λ r. ⌜ r ≡ lossOf (s .state) ⌝ }
-{
-    let state = s.state;
-    match state {
-        State::Waiting => 9,
-        State::Connecting => 8,
-        State::Open => 8,
+    if !fitting::fits(m) {
+        return refused(15);
     }
+    in_state(d, m, sc_eui, uuid, sign, room)
 }
 
-fn refused(s: Session, n: u8) -> Answer
-    ensures { λ r. ⌜ r ≡ refusedAs s n ⌝ }
+fn in_state(
+    d: &mut [u8],
+    m: Message,
+    sc_eui: u64,
+    uuid: &[u8],
+    sign: &[u8],
+    room: &mut [u8],
+) -> Answer
+    requires { ⌜ Lies (now d) × (length (now uuid) ≡ 16) × (length (now sign) ≡ 4) ⌝ }
+    ensures { λ r. ⌜ _≡_ {A = Called} (called r (now (d .exit)) (now (room .exit)))
+        (calledBy (now (d .entry)) (now (room .entry)) (inState (sessionAt (now (d .entry)) .state) (sessionAt (now (d .entry))) m (hostOf «sc_eui» (now (uuid .entry)) (now (sign .entry))))) ⌝ }
 {
-    Answer {
-        refusal: n,
-        happened: 0,
-        length: 0,
-        session: s,
+    let state = d[STATE];
+    if state == WAITING {
+        return connect::in_waiting(d, m, sc_eui, uuid, room);
     }
+    if state == OPEN {
+        return operate::in_open(d, m.command, m.op_id, sign, room);
+    }
+    connect::in_connecting(d, m.command, m.op_id)
 }
 
-fn done(happened: u8, n: usize, t: Session) -> Answer
-    ensures { λ r. ⌜ r ≡ doneAs happened n t ⌝ }
+// The centre starts an operation with this record, under the ID that it issues; 15 for bytes that are no session's, 17, 18, 19, 15, 20.
+pub fn begin(d: &mut [u8], m: Message, room: &mut [u8]) -> Answer
+    ensures { λ r. ⌜ _≡_ {A = Called} (called r (now (d .exit)) (now (room .exit))) (beginOn (now (d .entry)) m (now (room .entry))) ⌝ }
 {
-    Answer {
-        refusal: 0,
-        happened: happened,
-        length: n,
-        session: t,
+    if !is_session(d) {
+        return refused(15);
     }
+    if d[STATE] != OPEN {
+        return refused(17);
+    }
+    issue::begins(d, m, room)
 }
 
-// A step whose message, if it has one, is yet to be written.
-fn send(s: Session, t: Step, room: &mut [u8]) -> Answer
-    ensures { λ r. ⌜ (r ≡ answerOf s t (now (room .entry))) × (now (room .exit) ≡ roomLeft t (now (room .entry))) ⌝ }
+// The connection is lost: a session that was connecting or open is stored and waits; 15.
+pub fn lose(d: &mut [u8]) -> Answer
+    ensures { λ r. ⌜ (r ≡ lostAnswer (now (d .entry))) × (now (d .exit) ≡ lostSession (now (d .entry))) ⌝ }
 {
-    if t.refusal != 0 {
-        return refused(s, t.refusal);
+    if !is_session(d) {
+        return refused(15);
     }
-    if !t.replies {
-        return done(t.happened, 0, t.session);
+    if d[STATE] == WAITING {
+        return done(9, 0);
     }
-    write(s, t, room)
-}
-
-fn write(s: Session, t: Step, room: &mut [u8]) -> Answer
-    ensures { λ r. ⌜ (r ≡ written s (t .happened) (t .session) (writtenOf (t .reply) (now (room .entry)))) × (now (room .exit) ≡ roomOf (t .reply) (now (room .entry))) ⌝ }
-{
-    told(s, t, writing::write(t.reply, room))
-}
-
-fn told(s: Session, t: Step, w: Written) -> Answer
-    ensures { λ r. ⌜ r ≡ written s (t .happened) (t .session) w ⌝ }
-{
-    match w {
-        Written::Whole(n) => done(t.happened, n, t.session),
-        Written::Refused(k) => refused(s, k),
-    }
+    d[STATE] = WAITING;
+    d[STORED] = 1;
+    done(8, 0)
 }

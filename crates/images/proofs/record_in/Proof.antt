@@ -7,9 +7,9 @@ use lib.Ieee.{nan}
 use lib.ListN.{getD}
 use mir.Syntax.{w32, w64}
 use Rattle.octets.specs.Choice.{either}
+use Rattle.octets.proofs.Signs.{held}
 use Rattle.images.specs.Lists.{numbersAt, signedOf, isSet}
 use Rattle.images.specs.Record.{recordFrom, recordAt}
-use Rattle.images.proofs.Signs.{held}
 use Rattle.images.proofs.record_in.Statement.{statement}
 use Rattle.images.proofs.record_in.Tie as tie
 
@@ -61,11 +61,11 @@ bytes245-requires c κs = search needs
 array-read-t26 : tie.Need-array-read-t26
 array-read-t26 c = search needs
 
-array-read-signed64 : tie.Need-array-read-signed64
-array-read-signed64 c = search needs
+array-read-signed-of : tie.Need-array-read-signed-of
+array-read-signed-of c = search needs
 
-signed64-requires : tie.Need-signed64-requires
-signed64-requires c κs = search needs
+signed-of-requires : tie.Need-signed-of-requires
+signed-of-requires c κs = search needs
 
 array-read-t33 : tie.Need-array-read-t33
 array-read-t33 c = search needs
@@ -100,20 +100,20 @@ array-read-t64 c = search needs
 array-read-t69 : tie.Need-array-read-t69
 array-read-t69 c = search needs
 
-array-read-signed64-2 : tie.Need-array-read-signed64-2
-array-read-signed64-2 c = search needs
+array-read-signed-of-2 : tie.Need-array-read-signed-of-2
+array-read-signed-of-2 c = search needs
 
-signed64-requires-2 : tie.Need-signed64-requires-2
-signed64-requires-2 c κs = search needs
+signed-of-requires-2 : tie.Need-signed-of-requires-2
+signed-of-requires-2 c κs = search needs
 
 array-read-t78 : tie.Need-array-read-t78
 array-read-t78 c = search needs
 
-array-read-signed64-3 : tie.Need-array-read-signed64-3
-array-read-signed64-3 c = search needs
+array-read-signed-of-3 : tie.Need-array-read-signed-of-3
+array-read-signed-of-3 c = search needs
 
-signed64-requires-3 : tie.Need-signed64-requires-3
-signed64-requires-3 c κs = search needs
+signed-of-requires-3 : tie.Need-signed-of-requires-3
+signed-of-requires-3 c κs = search needs
 
 array-read-t87 : tie.Need-array-read-t87
 array-read-t87 c = search needs
@@ -258,14 +258,14 @@ returns c =
     let marks = at-marks .bytes19 .ensures in
     λ i. record {
       command = getD (smalls i) 0 0;
-      «op_id» = held w64 (at-op-id .signed64 .result) _ (record { sfits = at-op-id .signed64 .ok }) (at-op-id .signed64 .ensures ∙ ap (λ (l : List ℕ). signedOf 64 (getD l 0 0)) ids) i;
+      «op_id» = held w64 (at-op-id .signed-of .result) _ (record { sfits = at-op-id .signed-of .ok }) (at-op-id .signed-of .ensures ∙ ap (λ (l : List ℕ). signedOf 64 (getD l 0 0)) ids) i;
       version = record { here = isSet (getD (marks i) 0 0); major = getD (shorts i) 0 0; minor = getD (shorts i) 1 0; patch = getD (shorts i) 2 0 };
       «bs_eui» = getD (words i) 0 0;
       bidi = isSet (getD (marks i) 1 0);
       «geo_location» = record { here = isSet (getD (marks i) 2 0); value = record { latitude = getD (reals i) 0 nan; longitude = getD (reals i) 1 nan; altitude = getD (reals i) 2 nan } };
       «sn_bs_uuid» = at-sn-bs-uuid .bytes16 .ensures i;
-      «sn_bs_op_id» = record { here = isSet (getD (marks i) 3 0); value = held w64 (at-sn-bs-op-id .signed642 .result) _ (record { sfits = at-sn-bs-op-id .signed642 .ok }) (at-sn-bs-op-id .signed642 .ensures ∙ ap (λ (l : List ℕ). signedOf 64 (getD l 1 0)) ids) i };
-      «sn_sc_op_id» = record { here = isSet (getD (marks i) 4 0); value = held w64 (at-sn-sc-op-id .signed643 .result) _ (record { sfits = at-sn-sc-op-id .signed643 .ok }) (at-sn-sc-op-id .signed643 .ensures ∙ ap (λ (l : List ℕ). signedOf 64 (getD l 2 0)) ids) i };
+      «sn_bs_op_id» = record { here = isSet (getD (marks i) 3 0); value = held w64 (at-sn-bs-op-id .signed-of2 .result) _ (record { sfits = at-sn-bs-op-id .signed-of2 .ok }) (at-sn-bs-op-id .signed-of2 .ensures ∙ ap (λ (l : List ℕ). signedOf 64 (getD l 1 0)) ids) i };
+      «sn_sc_op_id» = record { here = isSet (getD (marks i) 4 0); value = held w64 (at-sn-sc-op-id .signed-of3 .result) _ (record { sfits = at-sn-sc-op-id .signed-of3 .ok }) (at-sn-sc-op-id .signed-of3 .ensures ∙ ap (λ (l : List ℕ). signedOf 64 (getD l 2 0)) ids) i };
       «sc_eui» = getD (words i) 1 0;
       «sn_resume» = isSet (getD (marks i) 5 0);
       «sn_sc_uuid» = at-sn-sc-uuid .bytes162 .ensures i;
@@ -321,8 +321,8 @@ record-in-spec =
     bytes16-requires-4
     bytes245-requires
     array-read-t26
-    array-read-signed64
-    signed64-requires
+    array-read-signed-of
+    signed-of-requires
     array-read-t33
     array-read-t37
     array-read-t40
@@ -334,11 +334,11 @@ record-in-spec =
     array-read-t61
     array-read-t64
     array-read-t69
-    array-read-signed64-2
-    signed64-requires-2
+    array-read-signed-of-2
+    signed-of-requires-2
     array-read-t78
-    array-read-signed64-3
-    signed64-requires-3
+    array-read-signed-of-3
+    signed-of-requires-3
     array-read-t87
     array-read-t90
     array-read-signed32

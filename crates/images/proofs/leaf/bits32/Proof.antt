@@ -1,7 +1,7 @@
 -- From 0 on the number is its bits; below 0 the code's distance from -1 is taken from all bits. Assumes nothing.
 use borrow.Author.Needs.{needs}
 use mir.Syntax.{w32}
-use Rattle.images.proofs.Signs.{turn-fits, turn-sign, turn-width, turn-most, turn-is, plain-sign, plain-width, plain-is}
+use Rattle.octets.proofs.Signs.{turn-fits, turn-sign, turn-width, turn-most, turn-is, plain-sign, plain-width, plain-is}
 use Rattle.images.proofs.leaf.bits32.Statement.{statement}
 use Rattle.images.proofs.leaf.bits32.Tie as tie
 

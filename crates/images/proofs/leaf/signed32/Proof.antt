@@ -1,7 +1,7 @@
 -- Below half of the bits' range the bits are the number; from there on the code's -1 - k is the bits less the range. Assumes nothing.
 use borrow.Author.Needs.{needs}
 use mir.Syntax.{w32}
-use Rattle.images.proofs.Signs.{signed-low, signed-fits, signed-high}
+use Rattle.octets.proofs.Signs.{signed-low, signed-fits, signed-high}
 use Rattle.images.proofs.leaf.signed32.Statement.{statement}
 use Rattle.images.proofs.leaf.signed32.Tie as tie
 

@@ -2,7 +2,7 @@
 use borrow.Author.Needs.{needs}
 use mathlib.Core.List.{[], _∷_}
 use mir.Syntax.{w32}
-use Rattle.images.proofs.Signs.{held-bits}
+use Rattle.octets.proofs.Signs.{held-bits}
 use Rattle.images.proofs.Typed.{code-fits}
 use Rattle.images.proofs.Chains.{numbers-as}
 use Rattle.images.proofs.record.put_counts.Statement.{statement}

@@ -1,0 +1,150 @@
+-- A start that is accepted takes exactly one entry, a Cmp or Rsp frees exactly one, a new session has none, and nothing else changes how many are open:
+-- of each step by its cases, of a run by induction over it. Assumes nothing.
+use mathlib.Core.Path.{_≡_, refl, sym, ap, _∙_}
+use mathlib.Core.Bool.{Bool, true, false, _&&_}
+use mathlib.Core.List.{List, [], _∷_}
+use mathlib.Core.Option.{Option, some, none}
+use Prim.Native.Nat.{ℕ, suc, _-_}
+use native.Mathlib.Omega.{arith}
+use lib.Dec.{eqb}
+use lib.IntN.{ℤ, pos, negsuc}
+use borrow.Author.Tests.{ltb-true, ne-eqb}
+use Rattle.octets.specs.Choice.{either}
+use Rattle.octets.proofs.Ranges.{true-false}
+use Rattle.names.specs.Names.{bytes, commandOf}
+use Rattle.message.specs.declared.Message.{Message}
+use Rattle.saying.specs.Fits.{fits}
+use Rattle.session.specs.Session.{State, Session, Host}
+use Rattle.session.specs.Session.State.{Waiting, Connecting, Open}
+use Rattle.session.specs.Place.{sameId, freePlace, placeOf, openIn}
+use Rattle.session.specs.Kinds.{Operation, stationStarts, centreStarts, operationBy}
+use Rattle.session.specs.Arrive.{Outcome, below, highestOf, lowestOf, resumes, starts, startAt, completeAt, respondAt, orElse, inWaiting, inConnecting, whenOpen, inState, arrives}
+use Rattle.session.specs.Centre.{oneBelow, lastId, underId, beginAt, begins, kindBegins, ifOpen, centreBegins, lostIn, lost}
+use Rattle.session.specs.Run.{Event, reached, after, happenedOf, lossOf, happenedIn, stationAfter, centreAfter, afterAll, countAll}
+use Rattle.session.proofs.Entries.{frees-one, takes-one}
+
+-- both sides' counts, from one session to another
+pub record Counted (s : Session) (w : ℕ) (t : Session) : Type 0 where
+  pub station : openIn (t .station) ≡ stationAfter w (openIn (s .station))
+  pub centre : openIn (t .centre) ≡ centreAfter w (openIn (s .centre))
+
+abbrev Counts : Session → Outcome → Type 0
+Counts s (Outcome.refused n) = Unit {0}
+Counts s (Outcome.silent w t) = Counted s w t
+Counts s (Outcome.replies w t m) = Counted s w t
+
+by-test : (s : Session) (b : Bool) (x y : Outcome) → Counts s x → Counts s y → Counts s (either b (λ _. x) (λ _. y))
+by-test s true x y p q = p
+by-test s false x y p q = q
+
+by-choice : (s : Session) (p : Option Operation) (g : Operation → Outcome) (x : Outcome) → ((o : Operation) → Counts s (g o)) → Counts s x → Counts s (orElse p g (λ _. x))
+by-choice s none g x h q = q
+by-choice s (some o) g x h q = h o
+
+-- an ID above the highest, and one below the lowest, is not 0
+above : (h z : ℤ) → below (either (below h (pos 0)) (λ _. pos 0) (λ _. h)) z ≡ true → sameId z (pos 0) ≡ false
+above (pos a) (pos n) e = go (below (pos a) (pos 0)) e
+  where
+    go : (b : Bool) → below (either b (λ _. pos 0) (λ _. pos a)) (pos n) ≡ true → eqb n 0 ≡ false
+    go true e = ne-eqb n 0 (λ z. omega (arith, ltb-true 0 n e))
+    go false e = ne-eqb n 0 (λ z. omega (arith, ltb-true a n e))
+above (negsuc a) (pos n) e = ne-eqb n 0 (λ z. omega (arith, ltb-true 0 n e))
+above h (negsuc k) e = refl
+
+under : (z : ℤ) → sameId (oneBelow z) (pos 0) ≡ false
+under (pos n) = refl
+under (negsuc k) = refl
+
+one-fewer : (n m : ℕ) → suc n ≡ m → n ≡ m - 1
+one-fewer n m e = omega arith
+
+module _ (s : Session) where
+  counted-start : (h : Host) (o : Operation) (z : ℤ) (p : Option ℕ) → sameId z (pos 0) ≡ false → freePlace (s .station) ≡ p → Counts s (startAt s h o z p)
+  counted-start h o z none n e = tt
+  counted-start h o z (some i) n e = record { station = takes-one (s .station) i z (o .start) n e; centre = refl }
+
+  counted-starts : (h : Host) (o : Operation) (z : ℤ) → Counts s (starts s h o z)
+  counted-starts h o z = go (below (highestOf s) z) refl
+    where
+      go : (b : Bool) → below (highestOf s) z ≡ b → Counts s (either b (λ _. startAt s h o z (freePlace (s .station))) (λ _. Outcome.refused 18))
+      go true e = counted-start h o z (freePlace (s .station)) (above (s .highest) z e) refl
+      go false e = tt
+
+  counted-complete : (k : ℕ) (z : ℤ) (p : Option ℕ) → placeOf z k (s .station) ≡ p → Counts s (completeAt s p)
+  counted-complete k z none e = tt
+  counted-complete k z (some i) e = record { station = one-fewer _ _ (frees-one (s .station) i z k e); centre = refl }
+
+  counted-respond : (o : Operation) (z : ℤ) (p : Option ℕ) → placeOf z (o .start) (s .centre) ≡ p → Counts s (respondAt s o z p)
+  counted-respond o z none e = tt
+  counted-respond o z (some i) e = record { station = refl; centre = one-fewer _ _ (frees-one (s .centre) i z (o .start) e) }
+
+  counted-open : (h : Host) (c : ℕ) (z : ℤ) → Counts s (whenOpen s h c z)
+  unfolding whenOpen
+  counted-open h c z =
+      by-choice s (operationBy (λ o. o .start) stationStarts c) _ _ (λ o. counted-starts h o z)
+      (by-choice s (operationBy (λ o. o .cmp) stationStarts c) _ _ (λ o. counted-complete (o .start) z (placeOf z (o .start) (s .station)) refl)
+      (by-choice s (operationBy (λ o. o .rsp) centreStarts c) _ _ (λ o. counted-respond o z (placeOf z (o .start) (s .centre)) refl) tt))
+
+  counted-waiting : (m : Message) (h : Host) → Counts s (inWaiting s m h)
+  unfolding inWaiting
+  counted-waiting m h =
+      by-test s (eqb (m .command) (commandOf (bytes "con"))) _ _
+      (by-test s (sameId (m .«op_id») (pos 0)) _ _
+      (by-test s (eqb (m .version .major) 1 && eqb (m .version .minor) 0) _ _
+      (by-test s (resumes s m) _ _ (record { station = refl; centre = refl }) (record { station = refl; centre = refl })) tt) tt) tt
+
+  counted-connecting : (m : Message) → Counts s (inConnecting s m)
+  unfolding inConnecting
+  counted-connecting m = by-test s (eqb (m .command) (commandOf (bytes "conCmp")) && sameId (m .«op_id») (pos 0)) _ _ (record { station = refl; centre = refl }) tt
+
+  counted-state : (x : State) (m : Message) (h : Host) → Counts s (inState x s m h)
+  counted-state Waiting m h = counted-waiting m h
+  counted-state Connecting m h = counted-connecting m
+  counted-state Open m h = counted-open h (m .command) (m .«op_id»)
+
+  counted-arrival : (m : Message) (h : Host) → Counts s (arrives s m h)
+  unfolding arrives
+  counted-arrival m h = by-test s (fits m) _ _ (counted-state (s .state) m h) tt
+
+  counted-issue : (o : Operation) (m : Message) (p : Option ℕ) → freePlace (s .centre) ≡ p → Counts s (beginAt s o (oneBelow (lowestOf s)) m p)
+  counted-issue o m none e = tt
+  counted-issue o m (some i) e =
+      by-test s (fits m) _ _ (record { station = refl; centre = takes-one (s .centre) i (oneBelow (lowestOf s)) (o .start) (under (lowestOf s)) e }) tt
+
+  counted-begin : (m : Message) → Counts s (centreBegins s m)
+  unfolding centreBegins
+  counted-begin m = go (s .state)
+    where
+      go : (x : State) → Counts s (ifOpen x (λ _. kindBegins s (m .command) m))
+      go Waiting = tt
+      go Connecting = tt
+      go Open =
+          by-choice s (operationBy (λ o. o .start) centreStarts (m .command)) _ _
+          (λ o. by-test s (sameId (lowestOf s) lastId) _ _ tt (counted-issue o (underId (oneBelow (lowestOf s)) m) (freePlace (s .centre)) refl)) tt
+
+-- a step
+reached-counts : (s : Session) (o : Outcome) → Counts s o → Counted s (happenedOf o) (reached s o)
+reached-counts s (Outcome.refused n) c = record { station = refl; centre = refl }
+reached-counts s (Outcome.silent w t) c = c
+reached-counts s (Outcome.replies w t m) c = c
+
+loss-counts : (s : Session) (x : State) → Counted s (lossOf x) (lostIn x s)
+loss-counts s Waiting = record { station = refl; centre = refl }
+loss-counts s Connecting = record { station = refl; centre = refl }
+loss-counts s Open = record { station = refl; centre = refl }
+
+pub step-counts : (s : Session) (e : Event) → Counted s (happenedIn s e) (after s e)
+unfolding lost
+step-counts s (Event.arrival m h) = reached-counts s (arrives s m h) (counted-arrival s m h)
+step-counts s (Event.beginning m) = reached-counts s (centreBegins s m) (counted-begin s m)
+step-counts s Event.loss = loss-counts s (s .state)
+
+-- a run
+pub run-counts : (s : Session) (es : List Event)
+    → (openIn (afterAll s es .station) ≡ countAll stationAfter s es (openIn (s .station))) × (openIn (afterAll s es .centre) ≡ countAll centreAfter s es (openIn (s .centre)))
+unfolding afterAll countAll
+run-counts s [] = (refl, refl)
+run-counts s (e ∷ es) =
+    let c = step-counts s e in
+    let r = run-counts (after s e) es in
+    (r .0 ∙ ap (countAll stationAfter (after s e) es) (c .station), r .1 ∙ ap (countAll centreAfter (after s e) es) (c .centre))

@@ -1,0 +1,74 @@
+// What a step stores: nothing but the bytes that it names.
+use crate::lies::BS_UUID;
+use crate::lies::CENTRE_IDS;
+use crate::lies::CENTRE_KINDS;
+use crate::lies::CONNECTING;
+use crate::lies::HIGHEST;
+use crate::lies::LOWEST;
+use crate::lies::SC_UUID;
+use crate::lies::STATE;
+use crate::lies::STATION_IDS;
+use crate::lies::STATION_KINDS;
+use crate::lies::STORED;
+use octets::bits_of;
+use octets::put_little;
+ghost use mathlib.Core.Path.{_≡_};
+ghost use Prim.Native.Nat.{_+_, _≤_, _<_};
+ghost use lib.ListN.{length, replicate};
+ghost use Rattle.octets.specs.Bytes.{putAt};
+ghost use Rattle.session.specs.Place.{taken, freed};
+ghost use Rattle.session.specs.Arrive.{withStation, withCentre, begunWith};
+ghost use Rattle.session.specs.Image.{sessionImage, sessionAt};
+ghost use Rattle.steps.specs.Lies.{Lies};
+
+// A place is taken by an operation of the station, whose ID is the highest known.
+pub fn take_station(d: &mut [u8], i: usize, id: i64, kind: u8)
+    requires { ⌜ Lies (now d) × (i < 16) ⌝ }
+    ensures { λ _. ⌜ now (d .exit) ≡ sessionImage (withStation (sessionAt (now (d .entry))) id (taken (sessionAt (now (d .entry)) .station) i id kind)) ⌝ }
+{
+    let bits = bits_of(id);
+    put_little(d, STATION_IDS + 8 * i, 8, bits);
+    d[STATION_KINDS + i] = kind;
+    put_little(d, HIGHEST, 8, bits);
+}
+
+pub fn free_station(d: &mut [u8], i: usize)
+    requires { ⌜ Lies (now d) × (i < 16) ⌝ }
+    ensures { λ _. ⌜ now (d .exit) ≡ sessionImage (withStation (sessionAt (now (d .entry))) (sessionAt (now (d .entry)) .highest) (freed (sessionAt (now (d .entry)) .station) i)) ⌝ }
+{
+    put_little(d, STATION_IDS + 8 * i, 8, 0);
+    d[STATION_KINDS + i] = 0;
+}
+
+// A place is taken by an operation of the centre, whose ID is the lowest issued.
+pub fn take_centre(d: &mut [u8], i: usize, id: i64, kind: u8)
+    requires { ⌜ Lies (now d) × (i < 16) ⌝ }
+    ensures { λ _. ⌜ now (d .exit) ≡ sessionImage (withCentre (sessionAt (now (d .entry))) id (taken (sessionAt (now (d .entry)) .centre) i id kind)) ⌝ }
+{
+    let bits = bits_of(id);
+    put_little(d, CENTRE_IDS + 8 * i, 8, bits);
+    d[CENTRE_KINDS + i] = kind;
+    put_little(d, LOWEST, 8, bits);
+}
+
+pub fn free_centre(d: &mut [u8], i: usize)
+    requires { ⌜ Lies (now d) × (i < 16) ⌝ }
+    ensures { λ _. ⌜ now (d .exit) ≡ sessionImage (withCentre (sessionAt (now (d .entry))) (sessionAt (now (d .entry)) .lowest) (freed (sessionAt (now (d .entry)) .centre) i)) ⌝ }
+{
+    put_little(d, CENTRE_IDS + 8 * i, 8, 0);
+    d[CENTRE_KINDS + i] = 0;
+}
+
+// IDs and open operations are cleared; bsEui, snBsUuid and the host's new UUID are taken.
+pub fn begin_anew(d: &mut [u8], eui: u64, bs_uuid: &[u8], sc_uuid: &[u8])
+    requires { ⌜ Lies (now d) × (length (now «bs_uuid») ≡ 16) × (length (now «sc_uuid») ≡ 16) ⌝ }
+    ensures { λ _. ⌜ now (d .exit) ≡ sessionImage (begunWith eui (now («bs_uuid» .entry)) (now («sc_uuid» .entry))) ⌝ }
+{
+    let cleared = [0u8; 304];
+    put_little(d, 0, 8, eui);
+    forms::put_run(d, HIGHEST, &cleared);
+    forms::put_run(d, BS_UUID, bs_uuid);
+    forms::put_run(d, SC_UUID, sc_uuid);
+    d[STATE] = CONNECTING;
+    d[STORED] = 0;
+}
