@@ -12,6 +12,7 @@ use Rattle.octets.specs.Choice.{either}
 use Rattle.message.specs.declared.Message.{Message}
 use Rattle.session.specs.Session.{Session}
 use Rattle.session.specs.Place.{sameId, freePlace}
+use Rattle.session.specs.Kinds.{Operation}
 use Rattle.session.specs.Arrive.{Outcome, lowestOf}
 use Rattle.session.specs.Centre.{oneBelow, lastId, underId, beginAt, begins}
 use Rattle.steps.proofs.Knowing.{kept}
@@ -53,6 +54,9 @@ module _ (s : Session) (x : ℤ) (h : mag (lowestOf s) < 0x8000000000000000) (e 
 
     pub issued-fits : SFits w64 (toZ w64 (ofZ w64 x) -ℤ pos 1)
     issued-fits = subst (SFits w64) (sym issued-is) (record { sfits = one-less-bits (lowestOf s) h (λ p. t (ap (ofZ w64) e ∙ p)) })
+
+pub issue-none : (s : Session) (o : Operation) (m : Message) → sameId (lowestOf s) lastId ≡ true → begins s o m ≡ Outcome.refused 18
+issue-none s o m e = simp e
 
 -- the record under the ID issued
 pub issue-under : (s : Session) (m u : Message) (z : ℤ) (a b : ℕ) → u ≡ underId z m → z ≡ oneBelow (lowestOf s) → sameId (lowestOf s) lastId ≡ false

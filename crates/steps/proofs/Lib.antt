@@ -12,3 +12,5 @@ pub mod Replies
 pub mod Branches
 pub mod Losing
 pub mod Opening
+pub mod Commands
+pub mod Calling

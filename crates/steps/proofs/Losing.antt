@@ -54,8 +54,7 @@ module _ (d : List ℕ) (b : Bool) (e : b ≡ isSession d) (r : Answer) where
     unfolding lost
     lost-stored n p =
         let k = loss-is (getD d 344 0) n in
-        let s : sessionAt d .state ≡ stateOf (getD d 344 0) = state-is (getD d 344 0) refl in
-        (
+        let s : sessionAt d .state ≡ stateOf (getD d 344 0) = state-is (getD d 344 0) refl in (
           p ∙ sym (simp (sym e ∙ set-is b h) (ap (λ (x : State). doneAs (lossOf x) 0) s ∙ ap (λ (x : ℕ). doneAs x 0) k)),
           now-stored d lying ∙ sym (simp (sym e ∙ set-is b h) (ap sessionImage (ap (λ (x : State). lostIn x (sessionAt d)) s ∙ lost-is (stateOf (getD d 344 0)) k))),
         )

@@ -17,6 +17,7 @@ use Rattle.octets.proofs.Reading.{if-there}
 use Rattle.session.specs.Session.{Entry}
 use Rattle.session.specs.Place.{entry, noEntry}
 use Rattle.session.specs.Image.{idAt, entriesAt, areZeros, isSession}
+use Rattle.session.proofs.Image.{tested}
 use Rattle.steps.specs.Lies.{Lies}
 
 sum-zero : (a b : ℕ) → eqb (a * 256 + b) 0 ≡ eqb b 0 && eqb a 0
@@ -90,6 +91,10 @@ session-short d h = sym (simp (ne-eqb (length d) 368 h))
 pub lies : (d : List ℕ) (b : Bool) → b ≡ isSession d → not b ≡ false → IsBytes d → Lies d
 lies d true e h bytes = record { is = sym e; bytes = bytes }
 lies d false e h bytes = let z : _≡_ {A = ℕ} 0 1 = cc in absurd (omega arith)
+
+pub told-long : (d : List ℕ) (b : Bool) → b ≡ isSession d → not b ≡ false → length d ≡ 368
+told-long d true e h = tested d (sym e) .long
+told-long d false e h = let z : _≡_ {A = ℕ} 0 1 = cc in absurd (omega arith)
 
 -- the entry at a place
 pub entry-at : (d : List ℕ) (ids kinds n i : ℕ) → i < n → getD (entriesAt d ids kinds n) i noEntry ≡ entry (idAt d (ids + 8 * i)) (getD d (kinds + i) 0)

@@ -3,9 +3,11 @@ use mathlib.Core.Path.{_≡_, refl, sym, ap, ap₂, _∙_}
 use mathlib.Core.Bool.{Bool, true, false, _&&_, not}
 use mathlib.Core.List.{List}
 use Prim.Native.Nat.{ℕ, _<_}
+use native.Mathlib.Omega.{arith}
 use lib.Dec.{eqb}
 use lib.IntN.{ℤ}
 use lib.ListN.{length, set, take, drop}
+use lib.Seq.{take-all}
 use lib.Signed.{mag}
 use mir.Syntax.{w64}
 use mir.Val.{SFits, ofZ}
@@ -53,6 +55,9 @@ module _ (d room : List ℕ) (l : Lies d) (eui : ℕ) (u g own : List ℕ) (t : 
 
   pub resume-sent : (n : ℕ) → x ≡ Whole n → r ≡ doneAs 2 n → _≡_ {A = Called} (called r (set d 344 1) after) (calledBy d room outcome)
   resume-sent n p q = sent-call d room _ r isResumed (resumed (sessionAt d)) m resumed-is after x (w .0) (w .1) n _ p q (now-connecting d l)
+
+pub own-is : (own u : List ℕ) → own ≡ take 16 (drop 0 u) → length u ≡ 16 → own ≡ u
+own-is own u e h = e ∙ take-all 16 u (omega (arith, h))
 
 -- con that begins anew: the reply has the host's UUID, and so has the session
 module _ (d room uuid g own : List ℕ) (eui : ℕ) (t : own ≡ uuid) (con m : Message) (b : (u g : List ℕ) → m ≡ conRspOf (hostOf eui u g) false own)

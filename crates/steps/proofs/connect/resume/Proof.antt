@@ -2,7 +2,7 @@
 use native.Mathlib.Omega.{arith}
 use borrow.Author.Needs.{needs}
 use Rattle.steps.proofs.Storing.{long, state-in}
-use Rattle.steps.proofs.Opening.{openings}
+use Rattle.steps.proofs.Opening.{resume-unsent, resume-sent}
 use Rattle.steps.proofs.connect.resume.Statement.{statement}
 use Rattle.steps.proofs.connect.resume.Tie as tie
 
@@ -37,7 +37,7 @@ same-length-2 : tie.Need-same-length-2
 same-length-2 c = search (state-in, long, needs)
 
 returns : tie.Need-returns
-returns c u g = search (openings, needs)
+returns c u g = resume-unsent _ _ (c .before .before .before .before .before .before .before .before .before .before .before .before .before .pre) _ u g _ (c .before .before .before .before .before .before .before .before .before .bytes16 .ensures) _ (c .before .before .before .before .before .before .before .before .con-rsp .ensures) _ _ (c .before .before .before .before .before .before .write .ensures) _ _ (search needs) (c .refused .ensures)
 
 same-length-3 : tie.Need-same-length-3
 same-length-3 c = search (state-in, long, needs)
@@ -46,7 +46,7 @@ same-length-4 : tie.Need-same-length-4
 same-length-4 c = search (state-in, long, needs)
 
 returns-2 : tie.Need-returns-2
-returns-2 c u g = search (openings, needs)
+returns-2 c u g = resume-sent _ _ (c .before .before .before .before .before .before .before .before .before .before .before .before .before .pre) _ u g _ (c .before .before .before .before .before .before .before .before .before .bytes16 .ensures) _ (c .before .before .before .before .before .before .before .before .con-rsp .ensures) _ _ (c .before .before .before .before .before .before .write .ensures) _ _ (search needs) (c .done .ensures)
 
 pub resume-spec : {M : Type 1} → statement M
 resume-spec =

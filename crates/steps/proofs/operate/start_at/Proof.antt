@@ -1,7 +1,7 @@
 -- A start takes the lowest free place, if its reply has room. Assumes nothing.
 use native.Mathlib.Omega.{arith}
 use borrow.Author.Needs.{needs}
-use Rattle.steps.proofs.Branches.{branches}
+use Rattle.steps.proofs.Branches.{branches, start-unsent, start-sent}
 use Rattle.steps.proofs.Storing.{long}
 use Rattle.steps.proofs.operate.start_at.Statement.{statement}
 use Rattle.steps.proofs.operate.start_at.Tie as tie
@@ -49,7 +49,7 @@ same-length-3 : tie.Need-same-length-3
 same-length-3 c = search (long, needs)
 
 returns-2 : tie.Need-returns-2
-returns-2 c e cmp u = search (branches, needs)
+returns-2 c e cmp u = start-unsent _ _ _ (c .before .before .before .before .before .before .before .before .before .before .before .free-place .ensures .0) e u _ (record { start = c .before .before .before .before .before .before .before .before .before .before .before .before .before .before .before .before .args .start; rsp = c .before .before .before .before .before .before .before .before .before .before .before .before .before .before .before .before .args .answer; cmp = cmp }) _ _ (c .before .before .before .before .before .before .before .before .before .before .before .before .before .before .before .before .fits .id) (c .before .before .before .before .before .before .before .before .before .before .if1 .left) _ (c .before .before .before .before .before .before .before .before .before .bytes4 .ensures) _ (c .before .before .before .before .before .before .before .before .rsp .ensures) _ _ (c .before .before .before .before .before .before .write .ensures) _ (search needs) (c .refused2 .ensures)
 
 same-length-4 : tie.Need-same-length-4
 same-length-4 c = search (long, needs)
@@ -58,7 +58,7 @@ same-length-5 : tie.Need-same-length-5
 same-length-5 c = search (long, needs)
 
 returns-3 : tie.Need-returns-3
-returns-3 c e cmp u = search (branches, needs)
+returns-3 c e cmp u = start-sent _ _ _ (c .before .before .before .before .before .before .before .before .before .before .before .before .before .before .before .free-place .ensures .0) e u _ (record { start = c .before .before .before .before .before .before .before .before .before .before .before .before .before .before .before .before .before .before .before .before .args .start; rsp = c .before .before .before .before .before .before .before .before .before .before .before .before .before .before .before .before .before .before .before .before .args .answer; cmp = cmp }) _ _ (c .before .before .before .before .before .before .before .before .before .before .before .before .before .before .before .before .before .before .before .before .fits .id) (c .before .before .before .before .before .before .before .before .before .before .before .before .before .before .if1 .left) _ (c .before .before .before .before .before .before .before .before .before .before .before .before .before .bytes4 .ensures) _ (c .before .before .before .before .before .before .before .before .before .before .before .before .rsp .ensures) _ _ (c .before .before .before .before .before .before .before .before .before .before .write .ensures) _ (search needs) _ (c .before .before .before .take-station .ensures) (c .done .ensures)
 
 pub start-at-spec : {M : Type 1} → statement M
 start-at-spec =
