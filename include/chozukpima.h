@@ -217,7 +217,7 @@ typedef struct chz_session {
     uint8_t sn_sc_uuid[16];
     uint8_t state; /* enum chz_state */
     uint8_t stored; /* 0 or 1 */
-    uint8_t reserved[6]; /* zeros */
+    uint8_t reserved[22]; /* zeros: kept for later releases, so that the struct need not move */
 } chz_session;
 
 enum chz_state { CHZ_WAITING = 0, CHZ_CONNECTING = 1, CHZ_OPEN = 2 };
@@ -233,12 +233,13 @@ CHZ_SAME(offsetof(chz_message, sn_bs_uuid), 204);
 CHZ_SAME(offsetof(chz_message, message), 236);
 CHZ_SAME(offsetof(chz_message, user_data), 336);
 CHZ_SAME(offsetof(chz_message, reserved), 581);
-CHZ_SAME(sizeof(chz_session), 352);
+CHZ_SAME(sizeof(chz_session), 368);
 CHZ_SAME(offsetof(chz_session, station_id), 24);
 CHZ_SAME(offsetof(chz_session, centre_id), 152);
 CHZ_SAME(offsetof(chz_session, station_kind), 280);
 CHZ_SAME(offsetof(chz_session, sn_bs_uuid), 312);
 CHZ_SAME(offsetof(chz_session, state), 344);
+CHZ_SAME(offsetof(chz_session, reserved), 346);
 
 /* A frame's payload stands behind so many bytes; and so many bytes hold the longest frame that may arrive. */
 #define CHZ_FRAME_HEAD 12

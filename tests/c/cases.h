@@ -8,6 +8,7 @@ void commands(void);
 void writes(void);
 void steps(void);
 void refused_steps(void);
+void changes(void);
 void meters(void);
 void refused_meters(void);
 void reals(void);
@@ -23,5 +24,12 @@ void names(void);
     "'command' 'ulData' 'opId' 07 'epEui' 09 'rxTime' 01 'packetCnt' 64 'snr' CA41200000 'rssi' CAC2C20000 "          \
     "'userData' 93010203 'dlOpen' C2 'responseExp' C2 'dlAck' C2"
 #define READING "8B " READING_HAS
+
+/* A message that has nothing more; the reply to a con; a con of a station that had a session, with the IDs it knows. */
+#define MESSAGE(command, id) "82 'command' '" command "' 'opId' " id
+#define CON_RSP(resume, uuid)                                                                                              \
+    "86 'command' 'conRsp' 'opId' 00 'version' '1.0.0' 'scEui' CC80 'snResume' " resume " 'snScUuid' DC0010 16*" uuid
+#define CON_AFTER(bs_uuid, ids)                                                                                            \
+    "88 'command' 'con' 'opId' 00 'version' '1.0.9' 'bsEui' 05 'bidi' C2 'snBsUuid' DC0010 16*" bs_uuid " " ids
 
 #endif

@@ -12,6 +12,7 @@ static void all_groups(void)
     writes();
     steps();
     refused_steps();
+    changes();
     meters();
     refused_meters();
     reals();

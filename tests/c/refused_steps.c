@@ -1,9 +1,11 @@
 /* Session calls refused for what is lent (15, 20) and at their limits (18, 19): nothing lent changes.
  * Last, sessions that no call would have left. */
+#include <stdio.h>
 #include <string.h>
 
 #include "cases.h"
 #include "sessions.h"
+#include "spell.h"
 
 static chz_session open_session(void)
 {
@@ -20,7 +22,7 @@ static const struct {
     size_t len;
 } lengths[] = {
     { "session a byte short", &session, sizeof(chz_session) - 1 }, { "session a byte long", &session, sizeof(chz_session) + 1 },
-    { "no session", &session, 0 },
+    { "no session", &session, 0 }, { "session of the former length", &session, 352 },
     { "message a byte short", &message, sizeof(chz_message) - 1 }, { "message a byte long", &message, sizeof(chz_message) + 1 },
     { "no message", &message, 0 },
     { "uuid a byte short", &uuid, 15 }, { "uuid a byte long", &uuid, 17 },
@@ -47,31 +49,30 @@ static void each_length(void)
         lend_as_long(buffer, lengths[i / 2].len);
         JUDGE(arrive(), ANSWER(CHZ_INVALID, 0, 0), ALL_OF_SESSION);
         if (buffer == &session || buffer == &message) JUDGE(begin(), ANSWER(CHZ_INVALID, 0, 0), ALL_OF_SESSION);
-        if (buffer == &session) JUDGE(chz_lost(session.at, session.len), ANSWER(CHZ_INVALID, 0, 0), ALL_OF_SESSION);
+        if (buffer == &session) JUDGE(lose(), ANSWER(CHZ_INVALID, 0, 0), ALL_OF_SESSION);
     }
 }
 
-static const struct {
-    const char *name;
-    size_t at;
-    uint8_t byte;
-} spoilt_sessions[] = {
-    { "state 3", offsetof(chz_session, state), 3 },
-    { "stored 2", offsetof(chz_session, stored), 2 },
-    { "reserved byte of the session", offsetof(chz_session, reserved), 1 },
-    { "last reserved byte of the session", sizeof(chz_session) - 1, 1 },
-};
+static void spoilt_session(const char *name, size_t at, uint8_t byte)
+{
+    chz_session s = open_session();
+    ((uint8_t *)&s)[at] = byte;
+    start(name);
+    lend_session(&s, PING);
+    JUDGE(arrive(), ANSWER(CHZ_INVALID, 0, 0), ALL_OF_SESSION);
+    JUDGE(begin(), ANSWER(CHZ_INVALID, 0, 0), ALL_OF_SESSION);
+    JUDGE(lose(), ANSWER(CHZ_INVALID, 0, 0), ALL_OF_SESSION);
+}
 
+/* The reserved bytes one by one: a look at some of them is not enough. */
 static void each_spoilt_session(void)
 {
-    for (size_t i = 0; i < COUNT(spoilt_sessions); i++) {
-        chz_session s = open_session();
-        ((uint8_t *)&s)[spoilt_sessions[i].at] = spoilt_sessions[i].byte;
-        start(spoilt_sessions[i].name);
-        lend_session(&s, PING);
-        JUDGE(arrive(), ANSWER(CHZ_INVALID, 0, 0), ALL_OF_SESSION);
-        JUDGE(begin(), ANSWER(CHZ_INVALID, 0, 0), ALL_OF_SESSION);
-        JUDGE(chz_lost(session.at, session.len), ANSWER(CHZ_INVALID, 0, 0), ALL_OF_SESSION);
+    spoilt_session("state 3", offsetof(chz_session, state), 3);
+    spoilt_session("stored 2", offsetof(chz_session, stored), 2);
+    for (size_t at = offsetof(chz_session, reserved); at < sizeof(chz_session); at++) {
+        static char name[32];
+        snprintf(name, sizeof name, "byte %zu of the session is 1", at);
+        spoilt_session(name, at, 1);
     }
 }
 
@@ -152,13 +153,19 @@ static void each_short_room(void)
     JUDGE(session_now().highest, 1, &message, &uuid, &sign);
 }
 
-/* Contents that no call leaves: a free place that names a kind, a negative highest, a positive lowest, an ID in two places. */
-static void strange_contents(void)
+/* Contents that no call leaves: a free place that names a kind, a negative highest and a positive lowest. */
+static chz_session strange_session(void)
 {
     chz_session s = open_session();
     s.station_kind[0] = s.centre_kind[0] = CHZ_PING;
     s.highest = -5;
     s.lowest = 5;
+    return s;
+}
+
+static void strange_contents(void)
+{
+    chz_session s = strange_session();
     start("a free place never matches");
     lend_session(&s, "82 'command' 'pingCmp' 'opId' 00");
     JUDGE(arrive(), ANSWER(CHZ_STATE, 0, 0), ALL_OF_SESSION);
@@ -170,8 +177,29 @@ static void strange_contents(void)
     start("a positive lowest counts as 0");
     begin();
     JUDGE((uint64_t)session_now().lowest, (uint64_t)-1, &message);
+}
+
+/* A station that knows of no operation resumes, and the session keeps its strange IDs. */
+static void strange_resume(void)
+{
+    uint8_t frame[LENT_MOST];
+    size_t len = spell_frame(CON_RSP("C3", "00"), frame);
+    chz_session s = strange_session();
+    s.bs_eui = 5;
+    s.stored = 1;
+    s.state = CHZ_WAITING;
+    start("both count as 0 where a con resumes");
+    lend_session(&s, CON_AFTER("00", "'snBsOpId' 00 'snScOpId' 00"));
+    s.state = CHZ_CONNECTING;
+    expect(&session, 0, &s, sizeof s);
+    expect(&room, 0, frame, len);
+    JUDGE(arrive(), ANSWER(CHZ_DONE, CHZ_RESUMED, len), ALL_OF_SESSION);
+}
+
+static void twice_open(void)
+{
+    chz_session s = open_session();
     start("of two entries that match the lower one is freed");
-    s = open_session();
     s.station_id[1] = s.station_id[2] = 4;
     s.station_kind[1] = s.station_kind[2] = CHZ_PING;
     lend_session(&s, "82 'command' 'pingCmp' 'opId' 04");
@@ -188,4 +216,6 @@ void refused_steps(void)
     each_limit();
     each_short_room();
     strange_contents();
+    strange_resume();
+    twice_open();
 }

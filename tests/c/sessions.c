@@ -30,6 +30,17 @@ uint64_t begin(void)
     return chz_begin(session.at, session.len, message.at, message.len, room.at, room.len);
 }
 
+uint64_t lose(void)
+{
+    return chz_lost(session.at, session.len);
+}
+
+uint64_t take(enum what what)
+{
+    if (what == BEGINS) return begin();
+    return what == LOST ? lose() : arrive();
+}
+
 chz_session session_now(void)
 {
     chz_session now;

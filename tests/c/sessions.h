@@ -11,7 +11,12 @@ extern struct lent session, message, uuid, sign, room;
 void lend_session(const chz_session *before, const char *payload);
 uint64_t arrive(void);
 uint64_t begin(void);
+uint64_t lose(void);
 chz_session session_now(void);
+
+/* One of the three, where a table names it. */
+enum what { ARRIVES, BEGINS, LOST };
+uint64_t take(enum what what);
 
 #define ALL_OF_SESSION &session, &message, &uuid, &sign, &room
 

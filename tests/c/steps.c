@@ -5,13 +5,6 @@
 #include "sessions.h"
 #include "spell.h"
 
-enum what { ARRIVES, BEGINS, LOST };
-
-#define CON_RSP(resume, uuid)                                                                                              \
-    "86 'command' 'conRsp' 'opId' 00 'version' '1.0.0' 'scEui' CC80 'snResume' " resume " 'snScUuid' DC0010 16*" uuid
-#define CON_AFTER(bs_uuid, ids)                                                                                            \
-    "88 'command' 'con' 'opId' 00 'version' '1.0.9' 'bsEui' 05 'bidi' C2 'snBsUuid' DC0010 16*" bs_uuid " " ids
-#define MESSAGE(command, id) "82 'command' '" command "' 'opId' " id
 #define READING_2                                                                                                          \
     "8B 'command' 'ulData' 'opId' 02 'epEui' 09 'rxTime' 01 'packetCnt' 64 'snr' CA41200000 'rssi' CAC2C20000 "            \
     "'userData' 93010203 'dlOpen' C2 'responseExp' C2 'dlAck' C2"
@@ -83,13 +76,6 @@ static const struct {
     { "con with another UUID", ARRIVES, CON_AFTER("2B", "'snBsOpId' 00 'snScOpId' 00"), 0, CHZ_BEGUN, CON_RSP("C2", "11"), CHZ_CONNECTING,
       0, 0 },
 };
-
-static uint64_t take(enum what what)
-{
-    if (what == BEGINS) return begin();
-    if (what == LOST) return chz_lost(session.at, session.len);
-    return arrive();
-}
 
 /* A step that is taken may change the session: of that, these three are stated here. A refused one may change nothing. */
 static void expect_session(size_t i, chz_session now)

@@ -4,6 +4,7 @@ use super::random::Random;
 use super::{begins, cons, sessions, values};
 use crate::reference::fields::Value;
 use crate::reference::image;
+use crate::reference::layout::{size, SESSION};
 use crate::reference::record::Record;
 use crate::reference::session::{Place, Session, State};
 use crate::stream::Stream;
@@ -24,7 +25,7 @@ const MOODS: [Mood; 4] = [
 
 pub fn one(stream: &mut Stream, random: &mut Random) {
     let mood = random.pick(&MOODS);
-    let mut session = image::to_session(&[0; 352]).expect("all zeros is a new session");
+    let mut session = image::to_session(&vec![0; size(SESSION)]).expect("all zeros is a new session");
     // no run gets down to −2^63 by itself
     if random.one_in(6) {
         session.lowest = i64::MIN + random.below(5) as i64;

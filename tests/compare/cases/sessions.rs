@@ -10,6 +10,9 @@ use crate::reference::session::{Place, Session, State};
 use crate::reference::{calls, image};
 use crate::stream::Stream;
 
+/// How long a session's image was before it had room for later releases.
+pub const FORMER: usize = 352;
+
 pub fn arrive(stream: &mut Stream, random: &mut Random) {
     let session = any(random);
     let message = match random.below(16) {
@@ -97,10 +100,10 @@ pub fn faulty(random: &mut Random, session: &Session) -> Vec<u8> {
     match random.below(60) {
         0 => image[344] = random.pick(&[3, 4, 255]),
         1 => image[345] = random.pick(&[2, 3, 255]),
-        2 => image[random.within(346, 351)] = random.pick(&[1, 0x80]),
-        3 => image.resize(random.pick(&[0, 1, usual - 1, usual + 1, 584]), 0),
+        2 => image[random.within(346, usual - 1)] = random.pick(&[1, 0x80]),
+        3 => image.resize(random.pick(&[0, 1, usual - 1, usual + 1, FORMER, 584]), 0),
         4 => image = random.bytes(usual),
-        // any bytes, but in the last eight
+        // any bytes, but state, stored and reserved stay
         5..=8 => image[..344].copy_from_slice(&random.bytes(344)),
         _ => {}
     }

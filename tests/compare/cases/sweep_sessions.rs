@@ -6,6 +6,7 @@ use super::{sessions, values};
 use crate::reference::commands::COMMANDS;
 use crate::reference::fields::Value;
 use crate::reference::image;
+use crate::reference::layout::{size, SESSION};
 use crate::reference::record::Record;
 use crate::reference::session::{Place, Session, State};
 use crate::stream::Stream;
@@ -24,14 +25,15 @@ pub fn all(stream: &mut Stream, random: &mut Random) {
     session_images(stream, random);
 }
 
-/// Session images of any length, and with any byte in each of the last eight: state, stored and reserved.
+/// Session images of any length, the former one among them, and with any byte in each of the last: state, stored and reserved.
 fn session_images(stream: &mut Stream, random: &mut Random) {
-    for length in (0..20).chain(340..365).chain([704]) {
+    let usual = size(SESSION);
+    for length in (0..20).chain(sessions::FORMER - 12..usual + 13).chain([2 * sessions::FORMER, 2 * usual]) {
         let mut image = image::of_session(&sessions::any(random));
         image.resize(length, 0);
         all_calls(stream, random, &image);
     }
-    for at in 344..352 {
+    for at in 344..usual {
         for byte in 0..=255 {
             let mut image = image::of_session(&sessions::any(random));
             image[at] = byte;

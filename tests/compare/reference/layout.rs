@@ -40,5 +40,5 @@ pub const MESSAGE: Layout = &[
 #[rustfmt::skip]
 pub const SESSION: Layout = &[
     ("bs_eui", 8), ("highest", 8), ("lowest", 8), ("station_id", 128), ("centre_id", 128), ("station_kind", 16),
-    ("centre_kind", 16), ("sn_bs_uuid", 16), ("sn_sc_uuid", 16), ("state", 1), ("stored", 1), ("reserved", 6),
+    ("centre_kind", 16), ("sn_bs_uuid", 16), ("sn_sc_uuid", 16), ("state", 1), ("stored", 1), ("reserved", 22),
 ];
