@@ -1,0 +1,42 @@
+-- A message of another length is 15; else the answer is that of the step on its record. Assumes nothing.
+use Rattle.chozukpima.proofs.Calls.{arrive-short, arrive-whole}
+use borrow.Author.Needs.{needs}
+use Rattle.chozukpima.proofs.sessions.chz_arrive.Statement.{statement}
+use Rattle.chozukpima.proofs.sessions.chz_arrive.Tie as tie
+
+refuse-requires : tie.Need-refuse-requires
+refuse-requires c κs = search needs
+
+returns : tie.Need-returns
+returns c = arrive-short _ _ _ _ (c .before .before .before .before .before .before .before .args .sc-eui) (c .before .before .before .before .before .before .before .args .uuid .now) (c .before .before .before .before .before .before .before .args .sign .now) (c .before .if1 .taken) (c .refuse .ensures)
+
+record-in-requires : tie.Need-record-in-requires
+record-in-requires c κs = search needs
+
+arrive-requires : tie.Need-arrive-requires
+arrive-requires c κs = search needs
+
+step-answer-requires : tie.Need-step-answer-requires
+step-answer-requires c κs = search needs
+
+same-length : tie.Need-same-length
+same-length c = search needs
+
+same-length-2 : tie.Need-same-length-2
+same-length-2 c = search needs
+
+returns-2 : tie.Need-returns-2
+returns-2 c = arrive-whole _ _ _ _ _ (c .before .before .before .before .before .before .before .before .record-in .ensures) (c .before .before .before .before .before .before .before .before .before .if1 .left) _ _ _ (c .step-answer .ensures) (c .before .before .before .before .before .before .before .before .before .before .before .before .before .before .before .args .sc-eui) (c .before .before .before .before .before .before .before .before .before .before .before .before .before .before .before .args .uuid .now) (c .before .before .before .before .before .before .before .before .before .before .before .before .before .before .before .args .sign .now) (c .before .before .before .before .before .arrive .ensures)
+
+pub chz-arrive-spec : {M : Type 1} → statement M
+chz-arrive-spec =
+    tie.close
+    (tie.spec
+    refuse-requires
+    returns
+    record-in-requires
+    arrive-requires
+    step-answer-requires
+    same-length
+    same-length-2
+    returns-2)
