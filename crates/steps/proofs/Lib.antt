@@ -14,3 +14,5 @@ pub mod Losing
 pub mod Opening
 pub mod Commands
 pub mod Calling
+pub mod Replying
+pub mod Settled
