@@ -6,3 +6,4 @@ pub mod Entries
 pub mod Counting
 pub mod Image
 pub mod Stored
+pub mod Back
