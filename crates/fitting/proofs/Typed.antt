@@ -141,6 +141,27 @@ module _ (m : Message) (vs : List Val) (g : Typed m vs) where
   pub user-len : Fits w64 (m .«user_len»)
   user-len = byte-wide (m .«user_len») (g .1 .1 .1 .1 .1 .1 .1 .1 .1 .1 .1 .1 .1 .1 .1 .1 .1 .1 .1 .1 .1 .1 .1 .1 .1 .1 .1 .1 .1 .1 .1 .1 .1 .1 .1 .1 .1 .1 .0 .1)
 
+  -- how long the arrays are
+  pub bs-uuid-long : length (m .«sn_bs_uuid») ≡ 16
+  bs-uuid-long = sn-bs-uuid .long
+
+  pub message-long : length (m .message) ≡ 64
+  message-long = message .long
+
+  pub profile-long : length (m .profile) ≡ 16
+  profile-long = profile .long
+
+  pub sign-long : length (m .sign) ≡ 4
+  sign-long = sign .long
+
+  pub key-long : length (m .«nwk_sn_key») ≡ 16
+  key-long = nwk-sn-key .long
+
+  pub data-long : length (m .«user_data») ≡ 245
+  data-long = user-data .long
+
+pub ruleset arrays-long = (bs-uuid-long, message-long, profile-long, sign-long, key-long, data-long)
+
 pub ruleset lengths = (message-len, profile-len, user-len)
 
 -- a signed number has its width

@@ -71,7 +71,7 @@ module _ (m : Message) where
   abbrev mostFor : Field → ℕ
   mostFor f = length (f .key) + 1 + mostOf (kindOf (f .kind))
 
-  abbrev mostIn : List Field → ℕ
+  abbrev pub mostIn : List Field → ℕ
   mostIn [] = 0
   mostIn (f ∷ l) = share f (mostFor f) + mostIn l
 
@@ -147,11 +147,14 @@ module _ (m : Message) where
     unfolding payloadFor
     payload-some = omega (arith, map-length pairsFor)
 
-    pub payload-short : length (payloadFor m) ≤ 1000
+    pub payload-within : length (payloadFor m) ≤ 1 + mostIn (fieldsOf (m .command))
     unfolding payloadFor
-    payload-short =
+    payload-within =
         let n = pairs-few in
-        omega (arith, map-length pairsFor, map-size-few (pairsOf pairsFor) (omega arith), written-few .short, most-bytes (m .command))
+        omega (arith, map-length pairsFor, map-size-few (pairsOf pairsFor) (omega arith), written-few .short)
+
+    pub payload-short : length (payloadFor m) ≤ 1000
+    payload-short = omega (arith, payload-within, most-bytes (m .command))
 
     pub payload-for : Payload (payloadFor m) (treeFor m)
     unfolding payloadFor

@@ -21,7 +21,7 @@ past [] c h = refl
 past (l ∷ ls) zero h = absurd (omega arith)
 past (l ∷ ls) (suc c) h = past ls c (omega arith)
 
-short-list : (c : ℕ) → 7 < c → fieldsOf c ≡ headed []
+pub short-list : (c : ℕ) → 7 < c → fieldsOf c ≡ headed []
 unfolding lists
 short-list c h = past lists c (omega arith)
 

@@ -5,7 +5,7 @@ use mathlib.Core.List.{List, [], _∷_, _++_, append-nil, append-assoc}
 use mathlib.Core.Option.{Option, some, none}
 use Prim.Native.Nat.{ℕ, zero, suc, _+_, _-_, _≤_, _<_}
 use native.Mathlib.Omega.{arith}
-use lib.Dec.{T, ltb→lt}
+use lib.Dec.{T, leb, ltb→lt}
 use lib.IntN.{pos}
 use lib.ListN.{length, take, drop, replicate, length-append, length-replicate}
 use lib.Seq.{length-take-le}
@@ -35,7 +35,7 @@ use Rattle.saying.proofs.Words.{back-in}
 use Rattle.saying.proofs.RoundTrip.{fits-command}
 use Rattle.saying.proofs.Payloads.{payload-short}
 use Rattle.writing.specs.Parts as Parts
-use Rattle.writing.specs.Parts.{valueParts, pairIf, partsFrom, fieldsFrom, countBy, titleParts, opIdParts, payloadBy, withHead}
+use Rattle.writing.specs.Parts.{valueParts, pairIf, partsFrom, fieldsFrom, countBy, titleParts, opIdParts, payloadBy, withHead, delivered}
 
 joined-numbers : (d : List ℕ) → joined (numberParts d) ≡ bytesOfAll (numberTrees d)
 unfolding joined numberParts numberTrees bytesOf
@@ -104,18 +104,18 @@ payload-bytes m =
     let e : payloadBy (m .command) m ≡ h ∷ partsFrom l says = ap (λ (x : List Field). h ∷ partsFrom x says) (begins (m .command)) in
     ap joined e ∙ ap (λ (x : List ℕ). h ++ x) (fields-bytes l says)
 
--- the payload stands behind the frame's head, where there are 1,012 bytes
-module _ (m : Message) (t : T (fits m)) (old room : List ℕ) (n : ℕ) (l : 1012 ≤ length old) (e : put room n ≡ putParts (payloadBy (m .command) m) (put old 12)) where
+-- the payload stands behind the frame's head, where it has room
+module _ (m : Message) (old room : List ℕ) (n : ℕ) (l : 12 + length (payloadFor m) ≤ length old) (e : put room n ≡ putParts (payloadBy (m .command) m) (put old 12)) where
   all-put : put room n ≡ put (putAt old 12 (payloadFor m)) (12 + length (payloadFor m))
   all-put =
       let b = payload-bytes m in
-      let s : 12 + length (joined (payloadBy (m .command) m)) ≤ length old = rw b (omega (arith, payload-short m t)) in
+      let s : 12 + length (joined (payloadBy (m .command) m)) ≤ length old = rw b l in
       e ∙ fits-parts (payloadBy (m .command) m) old 12 s ∙ ap (λ (d : List ℕ). put (putAt old 12 d) (12 + length d)) b
 
-  pub payload-end : n ≡ 12 + length (payloadFor m)
+  payload-end : n ≡ 12 + length (payloadFor m)
   payload-end = ap (λ (o : Put). o .next) all-put
 
-  pub payload-there : room ≡ putAt old 12 (payloadFor m)
+  payload-there : room ≡ putAt old 12 (payloadFor m)
   payload-there = ap (λ (o : Put). o .room) all-put
 
 -- what is put in front of bytes that stand there
@@ -167,22 +167,13 @@ frame-length m = omega (arith, length-append (littleBytes 4 (length (payloadFor 
 
 -- the answers
 module _ (m : Message) (room : List ℕ) where
-  pub refused-15 : fits m ≡ false → (Refused 15 ≡ writtenOf m room) × (room ≡ roomOf m room)
+  refused-15 : fits m ≡ false → (Refused 15 ≡ writtenOf m room) × (room ≡ roomOf m room)
   unfolding writtenOf roomOf
   refused-15 e = (simp e, simp e)
 
-  module _ (e : true ≡ fits m) where
-    pub refused-20 : length room < 12 + length (payloadFor m) → (Refused 20 ≡ writtenOf m room) × (room ≡ roomOf m room)
-    unfolding writtenOf roomOf
-    refused-20 h =
-        let l : length room < length (frameFor m) = omega (arith, frame-length m) in
-        (rw (← e, lt-leb (length (frameFor m)) (length room) l), rw (← e) (sym (put-out room 0 (frameFor m) (omega (arith, frame-length m)))))
-
-    pub whole : 12 + length (payloadFor m) ≤ length room → (after : List ℕ) → after ≡ putAt room 0 (frameFor m) → (Whole (12 + length (payloadFor m)) ≡ writtenOf m room) × (after ≡ roomOf m room)
-    unfolding writtenOf roomOf
-    whole h after p =
-        let l : length (frameFor m) ≤ length room = omega (arith, frame-length m) in
-        (rw (← e, le-leb (length (frameFor m)) (length room) l, frame-length m), rw (← e) p)
+  written : true ≡ fits m → (n : ℕ) → n ≡ 12 + length (payloadFor m) → (delivered n room ≡ writtenOf m room) × (putAt room 0 (frameFor m) ≡ roomOf m room)
+  unfolding writtenOf roomOf delivered
+  written e n h = let k : n ≡ length (frameFor m) = omega (arith, frame-length m) in (rw (← e, k), rw (← e))
 
 -- the same by the code's tests
 turned : (b : Bool) → not b ≡ true → b ≡ false
@@ -199,8 +190,32 @@ accepted m r p q = go r q ∙ p
     go true e = refl
     go false e = true-false e
 
-pub enough : 1012 ≤ length (replicate {A = ℕ} 1012 0)
-enough = rw length-replicate (omega arith)
+-- room for the head
+pub head-room : (k : ℕ) → 12 ≤ k → 12 ≤ length (replicate {A = ℕ} k 0)
+head-room k h = rw length-replicate h
+
+-- what `deliver` does
+head-length : (room : List ℕ) (n : ℕ) → length (withHead room n) ≡ length room
+unfolding withHead
+head-length room n = length-put _ 8 (littleBytes 4 (n - 12)) ∙ length-put room 0 (bigBytes 8 0x4D494F5459423031)
+
+module _ (made : List ℕ) (n : ℕ) (h : n ≤ length made) where
+  cut-length : length (take n (withHead made n)) ≡ n
+  cut-length = length-take-le n (withHead made n) (omega (arith, head-length made n))
+
+  pub cut-count : (whole : List ℕ) → whole ≡ withHead made n → n ≡ length (take n whole)
+  cut-count whole g = rw g (sym cut-length)
+
+  pub delivered-not : (room : List ℕ) → length room < n → (Refused 20 ≡ delivered n room) × (room ≡ putAt room 0 (take n (withHead made n)))
+  unfolding delivered
+  delivered-not room l = (sym (simp (lt-leb n (length room) l)), sym (put-out room 0 (take n (withHead made n)) (omega (arith, cut-length))))
+
+  pub delivered-whole : (room : List ℕ) → n ≤ length room → (whole after : List ℕ) (r : ℕ) → whole ≡ withHead made n → put after r ≡ putParts (take n whole ∷ []) (put room 0)
+      → (Whole n ≡ delivered n room) × (after ≡ putAt room 0 (take n (withHead made n)))
+  unfolding delivered putParts
+  delivered-whole room l whole after r g s =
+      let x : put after r ≡ putParts (take n (withHead made n) ∷ []) (put room 0) = rw g at s in
+      (sym (simp (le-leb n (length room) l)), ap (λ (o : Put). o .room) (x ∙ part-in room 0 (take n (withHead made n)) (omega (arith, cut-length))))
 
 module _ (m : Message) (f : true ≡ fits m) where
   passed : T (fits m)
@@ -209,48 +224,35 @@ module _ (m : Message) (f : true ≡ fits m) where
   pub command-small : m .command < 21
   command-small = ltb→lt (m .command) 21 (fits-command back-in m passed)
 
-  module _ (old room : List ℕ) (n : ℕ) (l : 1012 ≤ length old) (e : put room n ≡ putParts (payloadBy (m .command) m) (put old 12)) where
+  pub enough : (old : List ℕ) → 1012 ≤ length old → 12 + length (payloadFor m) ≤ length old
+  enough old l = omega (arith, payload-short m passed)
+
+  pub enough-made : 12 + length (payloadFor m) ≤ length (replicate {A = ℕ} 1012 0)
+  enough-made = rw length-replicate (omega (arith, payload-short m passed))
+
+  module _ (old room : List ℕ) (n : ℕ) (l : 12 + length (payloadFor m) ≤ length old) (e : put room n ≡ putParts (payloadBy (m .command) m) (put old 12)) where
     size : n ≡ 12 + length (payloadFor m)
-    size = payload-end m passed old room n l e
-
-    pub behind-head : 12 ≤ n
-    behind-head = omega (arith, size)
-
-    within : n ≤ 1012
-    within = omega (arith, size, payload-short m passed)
+    size = payload-end m old room n l e
 
     frame-put : (after : List ℕ) → after ≡ withHead room n → after ≡ putAt old 0 (frameFor m)
-    frame-put after g = framed old room after (payloadFor m) n (omega (arith, payload-short m passed)) (payload-there m passed old room n l e) size g
+    frame-put after g = framed old room after (payloadFor m) n l (payload-there m old room n l e) size g
 
+    -- in the room itself
     pub answer-whole : (after : List ℕ) → after ≡ withHead room n → (Whole n ≡ writtenOf m old) × (after ≡ roomOf m old)
+    unfolding delivered
     answer-whole after g =
-        let w = whole m old f (omega (arith, payload-short m passed)) after (frame-put after g) in
-        (ap Whole size ∙ w .0, w .1)
+        let w = written m old f n size in
+        let h : leb n (length old) ≡ true = le-leb n (length old) (omega (arith, size)) in
+        (simp h at (w .0), frame-put after g ∙ w .1)
 
-    pub answer-20 : (place : List ℕ) → length place < n → (Refused 20 ≡ writtenOf m place) × (place ≡ roomOf m place)
-    answer-20 place h = refused-20 m place f (omega (arith, size))
+    -- made elsewhere and then delivered
+    made-there : take n (withHead room n) ≡ frameFor m
+    made-there =
+        let k : n ≡ 0 + length (frameFor m) = omega (arith, size, frame-length m) in
+        ap₂ (λ (i : ℕ) (d : List ℕ). take i d) k (frame-put (withHead room n) refl)
+        ∙ put-upto old 0 (frameFor m) (omega (arith, frame-length m))
 
-    -- made elsewhere, and then put into its place
-    module _ (made : List ℕ) (g : made ≡ withHead room n) where
-      made-length : length made ≡ length old
-      made-length = ap length (frame-put made g) ∙ length-put old 0 (frameFor m)
-
-      pub in-made : n ≤ length made
-      in-made = omega (arith, within, made-length)
-
-      pub copied : n ≡ length (take n made)
-      copied = sym (length-take-le n made in-made)
-
-      made-there : take n made ≡ frameFor m
-      made-there =
-          let k : n ≡ 0 + length (frameFor m) = omega (arith, size, frame-length m) in
-          ap₂ (λ (i : ℕ) (d : List ℕ). take i d) k (frame-put made g)
-          ∙ put-upto old 0 (frameFor m) (omega (arith, frame-length m, payload-short m passed))
-
-      pub answer-copied : (place after : List ℕ) (r : ℕ) → n ≤ length place → put after r ≡ putParts (take n made ∷ []) (put place 0) → (Whole n ≡ writtenOf m place) × (after ≡ roomOf m place)
-      unfolding putParts
-      answer-copied place after r h s =
-          let x : put after r ≡ putParts (frameFor m ∷ []) (put place 0) = rw made-there at s in
-          let y : after ≡ putAt place 0 (frameFor m) = ap (λ (o : Put). o .room) (x ∙ part-in place 0 (frameFor m) (omega (arith, size, frame-length m))) in
-          let w = whole m place f (omega (arith, size)) after y in
-          (ap Whole size ∙ w .0, w .1)
+    pub answer-made : (place after : List ℕ) (r : Written) → (r ≡ delivered n place) × (after ≡ putAt place 0 (take n (withHead room n))) → (r ≡ writtenOf m place) × (after ≡ roomOf m place)
+    answer-made place after r d =
+        let w = written m place f n size in
+        (d .0 ∙ w .0, d .1 ∙ ap (putAt place 0) made-there ∙ w .1)

@@ -66,6 +66,9 @@ unfolding opIdParts
 op-id-put a z m b c f g = pair-id Kind.words (bytesOf (textTree (bytes "opId"))) a z m b c true refl f g
 
 -- all bytes of d are fewer than 256
+pub few : (d : List ℕ) (n : ℕ) → length d ≡ n → n < 256 → length d < 256
+few d n e h = omega arith
+
 pub pair-fixed : (lo hi : ℕ) (key d : List ℕ) (a b c : Put) → length d < 256 → b ≡ putParts (key ∷ []) a → c ≡ putParts (octetsParts (take 255 d)) b
     → c ≡ putParts (pairIf true (Kind.arrays lo hi) key (Value.string d)) a
 unfolding valueParts

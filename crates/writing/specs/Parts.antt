@@ -1,10 +1,11 @@
 -- For the private writers: a record's message part by part. No statement of a public function rests on this page.
-use Prim.Native.Nat.{ℕ, _-_}
-use mathlib.Core.Bool.{Bool, true, false}
+use Prim.Native.Nat.{ℕ, _+_, _-_}
+use mathlib.Core.Bool.{Bool, true, false, _||_}
 use mathlib.Core.List.{List, [], _∷_, _++_}
 use mathlib.Core.Option.{Option, some, none}
-use lib.IntN.{ℤ}
-use lib.ListN.{drop}
+use lib.Dec.{eqb, leb}
+use lib.IntN.{ℤ, pos}
+use lib.ListN.{length, drop}
 use Rattle.octets.specs.Choice.{either}
 use Rattle.octets.specs.Bytes.{bigBytes, littleBytes, putNumber}
 use Rattle.element.specs.Tree.{bytesOf, pairsOf}
@@ -13,9 +14,12 @@ use Rattle.forms.specs.Put.{Put, putParts, mapParts, wholeParts, realParts, mar
 use Rattle.names.specs.Names.{bytes, commands, nameAt}
 use Rattle.field.specs.Kind.{Kind, Value, kindOf}
 use Rattle.message.specs.Fields.{Field, received, fieldsOf}
+use Rattle.message.specs.declared.MaybeVersion.{MaybeVersion}
 use Rattle.message.specs.declared.Message.{Message}
 use Rattle.saying.specs.Says.{saysOf}
 use Rattle.saying.specs.Written.{asArray, pairsFrom}
+use Rattle.writing.specs.declared.Written.{Written}
+use Rattle.writing.specs.declared.Written.the-variants.{Whole, Refused}
 
 unfoldable pub valueParts : Kind → Value → List (List ℕ)
 valueParts k Value.nothing = (0xC0 ∷ []) ∷ []
@@ -46,7 +50,11 @@ partsFrom (f ∷ l) says = pairBy f (says (f .key)) ++ partsFrom l says
 unfoldable pub fieldsFrom : ℕ → ℕ → Message → List (List ℕ)
 fieldsFrom c i m = partsFrom (drop i (fieldsOf c)) (saysOf m)
 
--- what is told of a packet that was received, from the i-th field on
+-- det and ulData
+abbrev pub isReceived : ℕ → Bool
+isReceived c = eqb c 3 || eqb c 7
+
+-- what they tell of the packet that was received, from the i-th field on
 unfoldable pub packetFrom : ℕ → Message → List (List ℕ)
 packetFrom i m = partsFrom (drop i (received [])) (saysOf m)
 
@@ -69,7 +77,17 @@ opIdParts z = pairIf true Kind.words (bytesOf (textTree (bytes "opId"))) (Value.
 unfoldable pub payloadBy : ℕ → Message → List (List ℕ)
 payloadBy c m = titleParts (countBy c m) (nameAt commands c) ++ (opIdParts (m .«op_id») ++ fieldsFrom c 2 m)
 
--- the same for detRsp, and for a command that has no other fields
+-- the same from the fields alone: conRsp, detRsp, and a command that has no other fields
+unfoldable pub conRspFields : MaybeVersion → ℕ → Bool → List ℕ → List (List ℕ)
+conRspFields v e r u =
+    pairIf (v .here) Kind.versions (bytesOf (textTree (bytes "version"))) (Value.release (v .major) (v .minor) (v .patch))
+    ++ (pairIf true Kind.words (bytesOf (textTree (bytes "scEui"))) (Value.number (pos e))
+    ++ (pairIf true Kind.words (bytesOf (textTree (bytes "snResume"))) (Value.mark r)
+    ++ pairIf true (Kind.arrays 16 16) (bytesOf (textTree (bytes "snScUuid"))) (Value.string u)))
+
+unfoldable pub conRspParts : ℤ → MaybeVersion → ℕ → Bool → List ℕ → List (List ℕ)
+conRspParts z v e r u = titleParts (5 + oneIf (v .here)) (bytes "conRsp") ++ (opIdParts z ++ conRspFields v e r u)
+
 unfoldable pub detRspParts : ℤ → List ℕ → List (List ℕ)
 detRspParts z sign = titleParts 3 (bytes "detRsp") ++ (opIdParts z ++ pairIf true (Kind.arrays 4 4) (bytesOf (textTree (bytes "sign"))) (Value.string sign))
 
@@ -79,3 +97,7 @@ bareParts c z = titleParts 2 (nameAt commands c) ++ opIdParts z
 -- the 12 bytes in front of a payload that ends at a place
 unfoldable pub withHead : List ℕ → ℕ → List ℕ
 withHead room end = putNumber (putNumber room 0 8 (bigBytes 8 0x4D494F5459423031)) 8 4 (littleBytes 4 (end - 12))
+
+-- what a room answers to a frame of n bytes
+unfoldable pub delivered : ℕ → List ℕ → Written
+delivered n room = either (leb n (length room)) (λ _. Whole n) (λ _. Refused 20)

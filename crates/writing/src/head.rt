@@ -3,9 +3,10 @@ use crate::pair::text;
 use forms::put_id;
 use forms::put_map;
 use forms::put_run;
+use message::MaybeVersion;
 use message::Message;
 ghost use mathlib.Core.Path.{_≡_};
-ghost use Prim.Native.Nat.{_≤_, _<_};
+ghost use Prim.Native.Nat.{_+_, _≤_, _<_};
 ghost use lib.ListN.{length};
 ghost use Rattle.forms.specs.Put.{Put, put, putParts};
 ghost use Rattle.names.specs.Names.{commands, nameAt};
@@ -28,10 +29,10 @@ pub fn con_pairs(m: Message) -> u8
         + one(m.sn_sc_op_id.here)
 }
 
-pub fn con_rsp_pairs(m: Message) -> u8
-    ensures { λ r. ⌜ r ≡ countBy 1 m ⌝ }
+pub fn con_rsp_pairs(v: MaybeVersion) -> u8
+    ensures { λ r. ⌜ r ≡ 5 + oneIf (v .here) ⌝ }
 {
-    5 + one(m.version.here)
+    5 + one(v.here)
 }
 
 pub fn status_rsp_pairs(m: Message) -> u8

@@ -8,16 +8,20 @@ mod propagate;
 mod received;
 mod status;
 
+use message::MaybeVersion;
 use message::Message;
 use payload::bare_payload;
+use payload::con_rsp_payload;
 use payload::det_rsp_payload;
 use payload::put_payload;
 ghost use mathlib.Core.Path.{_≡_};
 ghost use mathlib.Core.Bool.{true};
-ghost use Prim.Native.Nat.{_≤_};
-ghost use lib.ListN.{length};
+ghost use Prim.Native.Nat.{_≤_, _<_};
+ghost use lib.IntN.{pos};
+ghost use lib.ListN.{length, take};
+ghost use Rattle.octets.specs.Bytes.{putAt};
 ghost use Rattle.saying.specs.Fits.{fits};
-ghost use Rattle.writing.specs.Parts.{withHead};
+ghost use Rattle.writing.specs.Parts.{withHead, delivered};
 ghost use Rattle.writing.specs.Write.{writtenOf, roomOf};
 
 // A frame and its length, or document 01's refusal 15 or 20.
@@ -35,53 +39,62 @@ pub fn write(m: Message, room: &mut [u8]) -> Written
         return Written::Refused(15);
     }
     if room.len() < 1012 {
-        return write_short(m, room);
+        let mut made = [0u8; 1012];
+        let end = put_payload(&mut made, 12, m);
+        return deliver(&mut made, end, room);
     }
-    write_long(m, room)
-}
-
-// In a room that has place for any frame: 12 bytes and a payload of at most 1,000. The shortest answers go by their fields alone, so that the
-// record isn't copied for them.
-fn write_long(m: Message, room: &mut [u8]) -> Written
-    requires { ⌜ (true ≡ fits m) × (1012 ≤ length (now room)) ⌝ }
-    ensures { λ r. ⌜ (r ≡ writtenOf m (now (room .entry))) × (now (room .exit) ≡ roomOf m (now (room .entry))) ⌝ }
-{
-    if m.command == 4 {
-        let sign = m.sign;
-        let end = det_rsp_payload(room, 12, m.op_id, sign);
-        frame(room, end);
-        return Written::Whole(end);
-    }
-    if 7 < m.command {
-        let end = bare_payload(room, 12, m.command, m.op_id);
-        frame(room, end);
-        return Written::Whole(end);
-    }
-    write_other(m, room)
-}
-
-// A record of any command, which is copied here and not before.
-fn write_other(m: Message, room: &mut [u8]) -> Written
-    requires { ⌜ (true ≡ fits m) × (1012 ≤ length (now room)) ⌝ }
-    ensures { λ r. ⌜ (r ≡ writtenOf m (now (room .entry))) × (now (room .exit) ≡ roomOf m (now (room .entry))) ⌝ }
-{
     let end = put_payload(room, 12, m);
     frame(room, end);
     Written::Whole(end)
 }
 
-// In a room that may be too short: the frame is made elsewhere first.
-fn write_short(m: Message, room: &mut [u8]) -> Written
-    requires { ⌜ true ≡ fits m ⌝ }
-    ensures { λ r. ⌜ (r ≡ writtenOf m (now (room .entry))) × (now (room .exit) ≡ roomOf m (now (room .entry))) ⌝ }
+// What a session sends of its own, from the fields alone, so that no record is made for it. Whoever calls knows that the record fits.
+pub fn write_bare(command: u8, id: i64, room: &mut [u8]) -> Written
+    requires { ⌜ (7 < command) × (command < 21) ⌝ }
+    ensures { λ r. ⌜ ((m : Message) → true ≡ fits m → m .command ≡ command → m .«op_id» ≡ id
+        → (r ≡ writtenOf m (now (room .entry))) × (now (room .exit) ≡ roomOf m (now (room .entry)))) ⌝ }
 {
-    let mut whole = [0u8; 1012];
-    let end = put_payload(&mut whole, 12, m);
+    let mut made = [0u8; 144];
+    let end = bare_payload(&mut made, 12, command, id);
+    deliver(&mut made, end, room)
+}
+
+pub fn write_det_rsp(id: i64, sign: [u8; 4], room: &mut [u8]) -> Written
+    ensures { λ r. ⌜ ((m : Message) → true ≡ fits m → m .command ≡ 4 → m .«op_id» ≡ id → m .sign ≡ sign
+        → (r ≡ writtenOf m (now (room .entry))) × (now (room .exit) ≡ roomOf m (now (room .entry)))) ⌝ }
+{
+    let mut made = [0u8; 144];
+    let end = det_rsp_payload(&mut made, 12, id, sign);
+    deliver(&mut made, end, room)
+}
+
+// Of version 1.0.0, under ID 0.
+pub fn write_con_rsp(sc_eui: u64, resumed: bool, uuid: [u8; 16], room: &mut [u8]) -> Written
+    ensures { λ r. ⌜ ((m : Message) → true ≡ fits m → m .command ≡ 1 → m .«op_id» ≡ pos 0 → m .version ≡ record { here = true; major = 1; minor = 0; patch = 0 }
+        → m .«sc_eui» ≡ «sc_eui» → m .«sn_resume» ≡ resumed → m .«sn_sc_uuid» ≡ uuid
+        → (r ≡ writtenOf m (now (room .entry))) × (now (room .exit) ≡ roomOf m (now (room .entry)))) ⌝ }
+{
+    let mut made = [0u8; 144];
+    let version = MaybeVersion {
+        here: true,
+        major: 1,
+        minor: 0,
+        patch: 0,
+    };
+    let end = con_rsp_payload(&mut made, 12, 0, version, sc_eui, resumed, uuid);
+    deliver(&mut made, end, room)
+}
+
+// A payload that was made elsewhere and ends at a place: as a frame into a room that has place for it.
+fn deliver(made: &mut [u8], end: usize, room: &mut [u8]) -> Written
+    requires { ⌜ (12 ≤ end) × (end ≤ length (now made)) ⌝ }
+    ensures { λ r. ⌜ (r ≡ delivered end (now (room .entry))) × (now (room .exit) ≡ putAt (now (room .entry)) 0 (take end (withHead (now (made .entry)) end))) ⌝ }
+{
     if room.len() < end {
         return Written::Refused(20);
     }
-    frame(&mut whole, end);
-    forms::put_run(room, 0, &whole[..end]);
+    frame(made, end);
+    forms::put_run(room, 0, &made[..end]);
     Written::Whole(end)
 }
 

@@ -20,7 +20,8 @@ pub fn put_att_prp(room: &mut [u8], at: usize, m: Message) -> usize
 fn att_prp_from_key(room: &mut [u8], at: usize, m: Message) -> usize
     ensures { λ r. ⌜ _≡_ {A = Put} (put (now (room .exit)) r) (putParts (fieldsFrom 5 4 m) (put (now (room .entry)) at)) ⌝ }
 {
-    let a = fixed(room, at, b"\xA8nwkSnKey", &m.nwk_sn_key);
+    let key = m.nwk_sn_key;
+    let a = fixed(room, at, b"\xA8nwkSnKey", &key);
     let b = short(room, a, b"\xA6shAddr", m.sh_addr);
     att_prp_from_count(room, b, m)
 }

@@ -9,22 +9,28 @@ use crate::pair::unless_zero;
 use crate::pair::word;
 use message::Message;
 ghost use mathlib.Core.Path.{_≡_};
+ghost use mathlib.Core.Bool.{true};
 ghost use Rattle.forms.specs.Put.{Put, put, putParts};
-ghost use Rattle.writing.specs.Parts.{fieldsFrom, packetFrom};
+ghost use Rattle.writing.specs.Parts.{isReceived, fieldsFrom, packetFrom};
 
-pub fn put_det(room: &mut [u8], at: usize, m: Message) -> usize
-    ensures { λ r. ⌜ _≡_ {A = Put} (put (now (room .exit)) r) (putParts (fieldsFrom 3 2 m) (put (now (room .entry)) at)) ⌝ }
+pub fn put_received(room: &mut [u8], at: usize, m: Message) -> usize
+    requires { ⌜ isReceived (m .command) ≡ true ⌝ }
+    ensures { λ r. ⌜ _≡_ {A = Put} (put (now (room .exit)) r) (putParts (fieldsFrom (m .command) 2 m) (put (now (room .entry)) at)) ⌝ }
 {
     let a = put_packet(room, at, m);
-    fixed(room, a, b"\xA4sign", &m.sign)
+    if m.command == 3 {
+        let sign = m.sign;
+        return fixed(room, a, b"\xA4sign", &sign);
+    }
+    ul_data_from_data(room, a, m)
 }
 
-pub fn put_ul_data(room: &mut [u8], at: usize, m: Message) -> usize
-    ensures { λ r. ⌜ _≡_ {A = Put} (put (now (room .exit)) r) (putParts (fieldsFrom 7 2 m) (put (now (room .entry)) at)) ⌝ }
+fn ul_data_from_data(room: &mut [u8], at: usize, m: Message) -> usize
+    ensures { λ r. ⌜ _≡_ {A = Put} (put (now (room .exit)) r) (putParts (fieldsFrom 7 10 m) (put (now (room .entry)) at)) ⌝ }
 {
-    let a = put_packet(room, at, m);
-    let b = octets(room, a, b"\xA8userData", &m.user_data, m.user_len);
-    ul_data_from_format(room, b, m)
+    let data = m.user_data;
+    let a = octets(room, at, b"\xA8userData", &data, m.user_len);
+    ul_data_from_format(room, a, m)
 }
 
 fn ul_data_from_format(room: &mut [u8], at: usize, m: Message) -> usize
@@ -75,13 +81,14 @@ fn packet_from_signal(room: &mut [u8], at: usize, m: Message) -> usize
 fn packet_from_eq_snr(room: &mut [u8], at: usize, m: Message) -> usize
     ensures { λ r. ⌜ _≡_ {A = Put} (put (now (room .exit)) r) (putParts (packetFrom 6 m) (put (now (room .entry)) at)) ⌝ }
 {
+    let profile = m.profile;
     let a = real(room, at, m.signal.has_eq_snr, b"\xA5eqSnr", m.signal.eq_snr);
     text(
         room,
         a,
         m.profile_len != 0,
         b"\xA7profile",
-        &m.profile,
+        &profile,
         m.profile_len,
     )
 }

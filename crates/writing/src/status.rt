@@ -19,7 +19,8 @@ pub fn put_status_rsp(room: &mut [u8], at: usize, m: Message) -> usize
 fn status_from_message(room: &mut [u8], at: usize, m: Message) -> usize
     ensures { λ r. ⌜ _≡_ {A = Put} (put (now (room .exit)) r) (putParts (fieldsFrom 2 3 m) (put (now (room .entry)) at)) ⌝ }
 {
-    let a = text(room, at, true, b"\xA7message", &m.message, m.message_len);
+    let message = m.message;
+    let a = text(room, at, true, b"\xA7message", &message, m.message_len);
     let b = word(room, a, true, b"\xA4time", m.time);
     status_from_duty(room, b, m)
 }
@@ -27,8 +28,9 @@ fn status_from_message(room: &mut [u8], at: usize, m: Message) -> usize
 fn status_from_duty(room: &mut [u8], at: usize, m: Message) -> usize
     ensures { λ r. ⌜ _≡_ {A = Put} (put (now (room .exit)) r) (putParts (fieldsFrom 2 5 m) (put (now (room .entry)) at)) ⌝ }
 {
+    let location = m.geo_location;
     let a = real(room, at, true, b"\xA9dutyCycle", m.duty_cycle);
-    let b = place(room, a, b"\xABgeoLocation", m.geo_location);
+    let b = place(room, a, b"\xABgeoLocation", location);
     status_from_uptime(room, b, m)
 }
 

@@ -1,55 +1,46 @@
+-- 15 for a record that does not fit; then its payload is put into the room, or made elsewhere and delivered. Assumes nothing.
 use native.Mathlib.Omega.{arith}
 use borrow.Author.Needs.{needs}
-use Rattle.writing.proofs.Framing.{answer-15, accepted}
+use Rattle.forms.proofs.Putting.{next-within}
+use Rattle.writing.proofs.Framing.{answer-15, accepted, head-room, command-small, enough, enough-made, answer-whole, answer-made}
 use Rattle.writing.proofs.write.Statement.{statement}
 use Rattle.writing.proofs.write.Tie as tie
-use Rattle.writing.proofs.write.Reads as reads
-use Rattle.writing.proofs.write.Lts as lts
-use Rattle.fitting.proofs.fits.Reads as fits-reads
-use Rattle.writing.proofs.write_long.Reads as write-long-reads
-use Rattle.writing.proofs.write_short.Reads as write-short-reads
 
--- src/lib.rt:34:9
 fits-requires : tie.Need-fits-requires
 fits-requires c κs = search needs
 
--- src/lib.rt:35:9
 returns : tie.Need-returns
 returns c = answer-15 _ _ _ (c .before .fits2 .ensures) (c .if1 .taken)
 
--- src/lib.rt:38:9
-write-short-requires : tie.Need-write-short-requires
-write-short-requires c κs = accepted _ _ (c .before .before .before .fits2 .ensures) (c .before .before .if1 .left)
+slice-aggregate-put-payload : tie.Need-slice-aggregate-put-payload
+slice-aggregate-put-payload c = search needs
 
--- src/lib.rt:38:9
+put-payload-requires : tie.Need-put-payload-requires
+put-payload-requires c κs = command-small _ (accepted _ _ (c .before .before .before .fits2 .ensures) (c .before .before .if1 .left))
+
+slice-aggregate-deliver : tie.Need-slice-aggregate-deliver
+slice-aggregate-deliver c = search needs
+
+deliver-requires : tie.Need-deliver-requires
+deliver-requires c κs = next-within _ _ _ _ _ (c .before .before .before .put-payload .ensures) (head-room 1012 (omega arith))
+
 same-length : tie.Need-same-length
 same-length c = search needs
 
--- src/lib.rt:38:9
 returns-2 : tie.Need-returns-2
-returns-2 c = search needs
+returns-2 c = let f = accepted _ _ (c .before .before .before .before .before .before .before .before .before .before .before .fits2 .ensures) (c .before .before .before .before .before .before .before .before .before .before .if1 .left) in answer-made _ f _ _ _ (enough-made _ f) (c .before .before .before .before .before .before .before .put-payload .ensures) _ _ _ (c .before .before .before .deliver .ensures)
 
--- src/lib.rt:40:5
-write-long-requires : tie.Need-write-long-requires
-write-long-requires c κs = (accepted _ _ (c .before .before .before .fits2 .ensures) (c .before .before .if1 .left), c .before .if2 .left)
+put-payload-requires-2 : tie.Need-put-payload-requires-2
+put-payload-requires-2 c κs = command-small _ (accepted _ _ (c .before .before .before .fits2 .ensures) (c .before .before .if1 .left))
 
--- src/lib.rt:31:1
+frame-requires : tie.Need-frame-requires
+frame-requires c κs = next-within _ _ _ _ _ (c .before .before .before .put-payload2 .ensures) (omega (arith, c .before .before .before .before .before .if2 .left)) .0
+
 same-length-2 : tie.Need-same-length-2
 same-length-2 c = search needs
 
--- src/lib.rt:31:1
 returns-3 : tie.Need-returns-3
-returns-3 c = search needs
+returns-3 c = let f = accepted _ _ (c .before .before .before .before .before .before .before .before .before .before .fits2 .ensures) (c .before .before .before .before .before .before .before .before .before .if1 .left) in answer-whole _ f _ _ _ (enough _ f (c .before .before .before .before .before .before .before .before .before .before .before .before .args .room .now) (c .before .before .before .before .before .before .before .before .if2 .left)) (c .before .before .before .before .before .before .put-payload2 .ensures) _ (c .before .before .frame .ensures)
 
 pub write-spec : {M : Type 1} → statement M
-write-spec =
-    tie.close
-    (tie.spec
-    fits-requires
-    returns
-    write-short-requires
-    same-length
-    returns-2
-    write-long-requires
-    same-length-2
-    returns-3)
+write-spec = tie.close (tie.spec fits-requires returns slice-aggregate-put-payload put-payload-requires slice-aggregate-deliver deliver-requires same-length returns-2 put-payload-requires-2 frame-requires same-length-2 returns-3)

@@ -1,61 +1,47 @@
-use native.Mathlib.Omega.{arith}
+-- Four fields. Assumes nothing.
 use borrow.Author.Needs.{needs}
 use Rattle.element.specs.Tree.{bytesOf}
 use Rattle.forms.specs.Shortest.{textTree, textHead}
-use Rattle.field.specs.Kind.{kinds, kindIn, kindOf}
-use Rattle.message.specs.Fields.{lists, listIn}
-use Rattle.saying.specs.Says.{rowsOf, partIn}
-use Rattle.writing.specs.Parts.{pairIf, partsFrom, fieldsFrom}
+use Rattle.forms.proofs.Putting.{parts-then}
+use Rattle.field.specs.Kind.{Kind}
+use Rattle.writing.specs.Parts.{conRspFields}
 use Rattle.writing.proofs.Pairs.{fields-then}
 use Rattle.writing.proofs.con.put_con_rsp.Statement.{statement}
 use Rattle.writing.proofs.con.put_con_rsp.Tie as tie
-use Rattle.writing.proofs.con.put_con_rsp.Reads as reads
-use Rattle.writing.proofs.con.put_con_rsp.Lts as lts
-use Rattle.writing.proofs.con.con_rsp_from_resume.Reads as con-rsp-from-resume-reads
-use Rattle.writing.proofs.pair.version.Reads as version-reads
-use Rattle.writing.proofs.pair.word.Reads as word-reads
 
--- src/con.rt:40:31
 slice-aggregate-version : tie.Need-slice-aggregate-version
 slice-aggregate-version c = search needs
 
--- src/con.rt:40:9
 version-requires : tie.Need-version-requires
 version-requires c κs = search needs
 
--- src/con.rt:41:33
 slice-aggregate-word : tie.Need-slice-aggregate-word
 slice-aggregate-word c = search needs
 
--- src/con.rt:41:9
 word-requires : tie.Need-word-requires
 word-requires c κs = search needs
 
--- src/con.rt:42:5
-con-rsp-from-resume-requires : tie.Need-con-rsp-from-resume-requires
-con-rsp-from-resume-requires c κs = search needs
+slice-aggregate-mark : tie.Need-slice-aggregate-mark
+slice-aggregate-mark c = search needs
 
--- src/con.rt:37:1
+mark-requires : tie.Need-mark-requires
+mark-requires c κs = search needs
+
+slice-aggregate-fixed : tie.Need-slice-aggregate-fixed
+slice-aggregate-fixed c = search needs
+
+slice-aggregate-fixed-2 : tie.Need-slice-aggregate-fixed-2
+slice-aggregate-fixed-2 c = search needs
+
+fixed-requires : tie.Need-fixed-requires
+fixed-requires c κs = search needs
+
 same-length : tie.Need-same-length
 same-length c = search needs
 
--- src/con.rt:37:1
 returns : tie.Need-returns
-unfolding fieldsFrom partsFrom pairIf lists listIn rowsOf partIn textTree textHead bytesOf kinds kindIn
-returns c =
-    fields-then _ _ _ _ _ _ _
-    (c .before .before .before .before .before .before .before .before .before .before .before .version .ensures (kindOf 17))
-    (c .before .before .before .before .before .before .word .ensures (kindOf 2))
-    (c .before .before .con-rsp-from-resume .ensures)
+unfolding conRspFields textTree textHead bytesOf
+returns c = fields-then _ _ _ _ _ _ _ (c .before .before .before .before .before .before .before .before .before .before .before .before .before .before .before .before .before .before .version .ensures Kind.versions) (c .before .before .before .before .before .before .before .before .before .before .before .before .before .word .ensures Kind.words) (parts-then _ _ _ _ _ (c .before .before .before .before .before .before .before .before .mark .ensures Kind.words) (c .before .before .fixed .ensures 16 16))
 
 pub put-con-rsp-spec : {M : Type 1} → statement M
-put-con-rsp-spec =
-    tie.close
-    (tie.spec
-    slice-aggregate-version
-    version-requires
-    slice-aggregate-word
-    word-requires
-    con-rsp-from-resume-requires
-    same-length
-    returns)
+put-con-rsp-spec = tie.close (tie.spec slice-aggregate-version version-requires slice-aggregate-word word-requires slice-aggregate-mark mark-requires slice-aggregate-fixed slice-aggregate-fixed-2 fixed-requires same-length returns)
