@@ -27,9 +27,11 @@ use Rattle.session.specs.Centre.{beginAt}
 use Rattle.session.specs.Image.{sessionImage, entriesAt, sessionAt}
 use Rattle.session.proofs.Image.{entries-long}
 use Rattle.steps.specs.declared.Answer.{Answer}
+use Rattle.steps.specs.Reply.{IsBare}
 use Rattle.steps.specs.Called.{Called, called, refusedAs, doneAs, calledBy, hostOf}
 use Rattle.steps.proofs.Calls.{refused-call, silent-call, sent-call, unsent-call, judged-sent, judged-unsent}
 use Rattle.steps.proofs.Choosing.{none-at, some-at}
+use Rattle.steps.proofs.Replies.{bare-sent}
 
 -- the place that the code found
 module _ (d : List ℕ) (i : ℕ) where
@@ -84,22 +86,23 @@ module _ (d room : List ℕ) (i : ℕ) (o : Operation) (z : ℤ) (g : SFits w64 
   pub respond-none : i ≡ 16 → r ≡ refusedAs 17 → _≡_ {A = Called} (called r d room) (calledBy d room (respondAt (sessionAt d) o z (placeOf z (o .start) (sessionAt d .centre))))
   respond-none h q = refused-call d room _ r 17 q (ap (respondAt (sessionAt d) o z) (centre-none d i z g (o .start) e h))
 
-  module _ (h : i ≡ 16 → ⊥) (m : Message) (b : m ≡ bareOf (o .cmp) (toZ w64 (ofZ w64 z))) (x : Written) (after : List ℕ) (w : (x ≡ writtenOf m room) × (after ≡ roomOf m room)) where
-    reply : m ≡ bareOf (o .cmp) z
-    reply = b ∙ ap (bareOf (o .cmp)) (toZ-ofZ w64 z g)
+  module _ (h : i ≡ 16 → ⊥) (k : IsBare (o .cmp)) (x : Written) (after : List ℕ)
+      (w : (m : Message) → true ≡ fits m → m .command ≡ o .cmp → m .«op_id» ≡ toZ w64 (ofZ w64 z) → (x ≡ writtenOf m room) × (after ≡ roomOf m room)) where
+    sent : (x ≡ writtenOf (bareOf (o .cmp) z) room) × (after ≡ roomOf (bareOf (o .cmp) z) room)
+    sent = bare-sent room after x z g (o .cmp) k w
 
     abbrev ended : Session
     ended = withCentre (sessionAt d) (sessionAt d .lowest) (freed (sessionAt d .centre) i)
 
-    outcome : respondAt (sessionAt d) o z (placeOf z (o .start) (sessionAt d .centre)) ≡ Outcome.replies isAnswered (withCentre (sessionAt d) (sessionAt d .lowest) (freed (sessionAt d .centre) i)) m
-    outcome = ap (respondAt (sessionAt d) o z) (centre-some d i z g (o .start) e h) ∙ ap (λ (y : Message). Outcome.replies isAnswered ended y) (sym reply)
+    outcome : respondAt (sessionAt d) o z (placeOf z (o .start) (sessionAt d .centre)) ≡ Outcome.replies isAnswered (withCentre (sessionAt d) (sessionAt d .lowest) (freed (sessionAt d .centre) i)) (bareOf (o .cmp) z)
+    outcome = ap (respondAt (sessionAt d) o z) (centre-some d i z g (o .start) e h)
 
-    pub respond-unsent : (k : ℕ) → x ≡ Refused k → r ≡ refusedAs k → _≡_ {A = Called} (called r d after) (calledBy d room (respondAt (sessionAt d) o z (placeOf z (o .start) (sessionAt d .centre))))
-    respond-unsent k p q = unsent-call d room _ r isAnswered ended m outcome after x (w .0) (w .1) k p q
+    pub respond-unsent : (n : ℕ) → x ≡ Refused n → r ≡ refusedAs n → _≡_ {A = Called} (called r d after) (calledBy d room (respondAt (sessionAt d) o z (placeOf z (o .start) (sessionAt d .centre))))
+    respond-unsent n p q = unsent-call d room _ r isAnswered ended (bareOf (o .cmp) z) outcome after x (sent .0) (sent .1) n p q
 
     pub respond-sent : (n : ℕ) → x ≡ Whole n → (f : List ℕ) → f ≡ sessionImage (withCentre (sessionAt d) (sessionAt d .lowest) (freed (sessionAt d .centre) i)) → r ≡ doneAs 6 n
         → _≡_ {A = Called} (called r f after) (calledBy d room (respondAt (sessionAt d) o z (placeOf z (o .start) (sessionAt d .centre))))
-    respond-sent n p f q v = sent-call d room _ r isAnswered ended m outcome after x (w .0) (w .1) n f p v q
+    respond-sent n p f q v = sent-call d room _ r isAnswered ended (bareOf (o .cmp) z) outcome after x (sent .0) (sent .1) n f p v q
 
 -- a start of the station
 module _ (d room : List ℕ) (i : ℕ) (e : (kinds : ℕ) → i ≡ placeNumber (freePlace (entriesAt d 24 kinds 16))) (eui : ℕ) (uuid sign : List ℕ) (o : Operation) (z : ℤ) (r : Answer) where
@@ -109,22 +112,23 @@ module _ (d room : List ℕ) (i : ℕ) (e : (kinds : ℕ) → i ≡ placeNumber 
   pub start-full : i ≡ 16 → r ≡ refusedAs 19 → _≡_ {A = Called} (called r d room) (calledBy d room (startAt (sessionAt d) h o z (freePlace (sessionAt d .station))))
   start-full p q = refused-call d room _ r 19 q (ap (startAt (sessionAt d) h o z) (station-full d i e p))
 
-  module _ (g : SFits w64 z) (p : i ≡ 16 → ⊥) (four : List ℕ) (t : four ≡ sign) (m : Message) (b : (e : ℕ) (u : List ℕ) → m ≡ rspOf (hostOf e u four) (o .rsp) (toZ w64 (ofZ w64 z))) (x : Written) (after : List ℕ) (w : (x ≡ writtenOf m room) × (after ≡ roomOf m room)) where
-    answer : m ≡ rspOf h (o .rsp) z
-    answer = b eui uuid ∙ ap (λ (y : List ℕ). rspOf (hostOf eui uuid y) (o .rsp) (toZ w64 (ofZ w64 z))) t ∙ ap (rspOf h (o .rsp)) (toZ-ofZ w64 z g)
+  module _ (g : SFits w64 z) (p : i ≡ 16 → ⊥) (x : Written) (after : List ℕ)
+      (w : (e : ℕ) (u : List ℕ) → (x ≡ writtenOf (rspOf (hostOf e u sign) (o .rsp) (toZ w64 (ofZ w64 z))) room) × (after ≡ roomOf (rspOf (hostOf e u sign) (o .rsp) (toZ w64 (ofZ w64 z))) room)) where
+    answered : (x ≡ writtenOf (rspOf h (o .rsp) z) room) × (after ≡ roomOf (rspOf h (o .rsp) z) room)
+    answered = subst (λ (y : ℤ). (x ≡ writtenOf (rspOf h (o .rsp) y) room) × (after ≡ roomOf (rspOf h (o .rsp) y) room)) (toZ-ofZ w64 z g) (w eui uuid)
 
     abbrev started : Session
     started = withStation (sessionAt d) z (taken (sessionAt d .station) i z (o .start))
 
-    begun : startAt (sessionAt d) h o z (freePlace (sessionAt d .station)) ≡ Outcome.replies isStarted (withStation (sessionAt d) z (taken (sessionAt d .station) i z (o .start))) m
-    begun = ap (startAt (sessionAt d) h o z) (station-free d i e p) ∙ ap (λ (y : Message). Outcome.replies isStarted started y) (sym answer)
+    begun : startAt (sessionAt d) h o z (freePlace (sessionAt d .station)) ≡ Outcome.replies isStarted (withStation (sessionAt d) z (taken (sessionAt d .station) i z (o .start))) (rspOf h (o .rsp) z)
+    begun = ap (startAt (sessionAt d) h o z) (station-free d i e p)
 
     pub start-unsent : (k : ℕ) → x ≡ Refused k → r ≡ refusedAs k → _≡_ {A = Called} (called r d after) (calledBy d room (startAt (sessionAt d) h o z (freePlace (sessionAt d .station))))
-    start-unsent k q v = unsent-call d room _ r isStarted started m begun after x (w .0) (w .1) k q v
+    start-unsent k q v = unsent-call d room _ r isStarted started (rspOf h (o .rsp) z) begun after x (answered .0) (answered .1) k q v
 
     pub start-sent : (n : ℕ) → x ≡ Whole n → (f : List ℕ) → f ≡ sessionImage (withStation (sessionAt d) (toZ w64 (ofZ w64 z)) (taken (sessionAt d .station) i (toZ w64 (ofZ w64 z)) (o .start))) → r ≡ doneAs 4 n
         → _≡_ {A = Called} (called r f after) (calledBy d room (startAt (sessionAt d) h o z (freePlace (sessionAt d .station))))
-    start-sent n q f v u = sent-call d room _ r isStarted started m begun after x (w .0) (w .1) n f q u (rw (toZ-ofZ w64 z g) at v)
+    start-sent n q f v u = sent-call d room _ r isStarted started (rspOf h (o .rsp) z) begun after x (answered .0) (answered .1) n f q u (rw (toZ-ofZ w64 z g) at v)
 
 -- a start of the centre
 module _ (d room : List ℕ) (i : ℕ) (e : (kinds : ℕ) → i ≡ placeNumber (freePlace (entriesAt d 152 kinds 16))) (o : Operation) (m : Message) (r : Answer) where

@@ -3,11 +3,8 @@ use mathlib.Core.Path.{_≡_, sym, ap, _∙_}
 use mathlib.Core.List.{List}
 use Prim.Native.Nat.{ℕ}
 use lib.IntN.{ℤ}
-use Rattle.message.specs.declared.Message.{Message}
 use Rattle.session.specs.Session.{Session, Host}
-use Rattle.session.specs.Kinds.{Operation}
 use Rattle.session.specs.Arrive.{Outcome, whenOpen}
-use Rattle.session.specs.Centre.{begins, kindBegins}
 use Rattle.steps.specs.Called.{Called, calledBy}
 
 module _ (d room : List ℕ) (x : Called) where
@@ -16,11 +13,3 @@ module _ (d room : List ℕ) (x : Called) where
 
   pub at-command : (s : Session) (h : Host) (z : ℤ) (c n : ℕ) → c ≡ n → x ≡ calledBy d room (whenOpen s h n z) → x ≡ calledBy d room (whenOpen s h c z)
   at-command s h z c n e p = p ∙ ap (λ (k : ℕ). calledBy d room (whenOpen s h k z)) (sym e)
-
-  module _ (s : Session) (m : Message) where
-    pub at-kind : (c n : ℕ) → c ≡ n → x ≡ calledBy d room (kindBegins s n m) → x ≡ calledBy d room (kindBegins s c m)
-    at-kind c n e p = p ∙ ap (λ (k : ℕ). calledBy d room (kindBegins s k m)) (sym e)
-
-    pub as-kind : (k a b : ℕ) → m .command ≡ k → x ≡ calledBy d room (begins s (record { start = m .command; rsp = a; cmp = b }) m)
-        → x ≡ calledBy d room (begins s (record { start = k; rsp = a; cmp = b }) m)
-    as-kind k a b e p = p ∙ ap (λ (n : ℕ). calledBy d room (begins s (record { start = n; rsp = a; cmp = b }) m)) e

@@ -1,87 +1,43 @@
--- The code's test of a session's bytes is the definition's: the spare bytes are zeros exactly if the three numbers that they write are. And the entry
--- at a place of the bytes is that of the list. Assumes nothing.
-use mathlib.Core.Path.{_≡_, refl, sym, ap, ap₂, _∙_}
-use mathlib.Core.Bool.{Bool, true, false, not, _&&_}
-use mathlib.Core.List.{List, [], _∷_, _++_}
+-- The code's test of a session's bytes is the definition's: the spare bytes are looked at one by one. And the entry at a place of the bytes is that
+-- of the list. Assumes nothing.
+use mathlib.Core.Path.{_≡_, sym, ap, ap₂, _∙_}
+use mathlib.Core.Bool.{Bool, true, false, not, _&&_, and-true, and-assoc}
+use mathlib.Core.List.{List}
 use Prim.Native.Nat.{ℕ, zero, suc, _+_, _*_, _≤_, _<_}
 use native.Mathlib.Numerals.{add-one}
 use native.Mathlib.Omega.{arith}
 use lib.Dec.{eqb, ltb}
-use lib.ListN.{length, getD, take, drop, drop-of-length-le, take-append-drop}
-use lib.Seq.{drop-cons, drop-drop}
-use borrow.Author.Tests.{eq-eqb, ne-eqb, eqb-true, eqb-false}
-use Rattle.octets.specs.Choice.{either}
-use Rattle.octets.specs.Number.{littleAt, ifThere}
+use lib.ListN.{length, getD, drop, drop-of-length-le}
+use lib.Seq.{drop-cons}
+use borrow.Author.Tests.{eq-eqb, ne-eqb}
 use Rattle.octets.specs.Bytes.{IsBytes}
-use Rattle.octets.proofs.Reading.{if-there}
 use Rattle.session.specs.Session.{Entry}
 use Rattle.session.specs.Place.{entry, noEntry}
 use Rattle.session.specs.Image.{idAt, entriesAt, areZeros, isSession}
 use Rattle.session.proofs.Image.{tested}
 use Rattle.steps.specs.Lies.{Lies}
 
-sum-zero : (a b : ℕ) → eqb (a * 256 + b) 0 ≡ eqb b 0 && eqb a 0
-sum-zero a b = go (eqb b 0) (eqb a 0) refl refl
-  where
-    go : (x y : Bool) → eqb b 0 ≡ x → eqb a 0 ≡ y → eqb (a * 256 + b) 0 ≡ x && y
-    go true true p q = eq-eqb (a * 256 + b) 0 (omega (arith, eqb-true b 0 p, eqb-true a 0 q))
-    go true false p q = let n : a ≡ 0 → ⊥ = eqb-false a 0 q in ne-eqb (a * 256 + b) 0 (λ e. n (omega arith))
-    go false y p q = let n : b ≡ 0 → ⊥ = eqb-false b 0 p in ne-eqb (a * 256 + b) 0 (λ e. n (omega arith))
-
-number-zeros : (d : List ℕ) (at n : ℕ) → at + n ≤ length d → eqb (littleAt d at n) 0 ≡ areZeros (take n (drop at d))
-unfolding littleAt areZeros
-number-zeros d at zero h = refl
-number-zeros d at (suc n) h =
-    sum-zero (littleAt d (at + 1) n) (getD d at 0)
-    ∙ ap (λ (b : Bool). eqb (getD d at 0) 0 && b) (number-zeros d (at + 1) n (omega arith) ∙ ap (λ (k : ℕ). areZeros (take n (drop k d))) (add-one at))
-    ∙ sym (ap (λ (l : List ℕ). areZeros (take (suc n) l)) (drop-cons d at 0 (omega arith)))
-
-and-assoc : (a b c : Bool) → (a && b) && c ≡ a && (b && c)
-and-assoc true b c = refl
-and-assoc false b c = refl
-
-zeros-join : (a b : List ℕ) → areZeros (a ++ b) ≡ areZeros a && areZeros b
-unfolding areZeros
-zeros-join [] b = refl
-zeros-join (x ∷ a) b = ap (λ (y : Bool). eqb x 0 && y) (zeros-join a b) ∙ sym (and-assoc (eqb x 0) (areZeros a) (areZeros b))
-
-module _ (d : List ℕ) (long : length d ≡ 368) where
-  zeros-split : (at n : ℕ) → at + n ≤ 368 → areZeros (drop at d) ≡ eqb (littleAt d at n) 0 && areZeros (drop (at + n) d)
-  zeros-split at n h =
-      ap areZeros (sym (take-append-drop n (drop at d))) ∙ zeros-join (take n (drop at d)) (drop n (drop at d))
-      ∙ ap₂ (λ (a b : Bool). a && b) (sym (number-zeros d at n (omega (arith, long)))) (ap areZeros (drop-drop n at d))
-
-  none-left : areZeros (drop 368 d) ≡ true
+-- what is known of the spare bytes passed, and those from i on, answer for all of them
+module _ (d : List ℕ) (i : ℕ) (ok all : Bool) (e : ok && areZeros (drop i d) ≡ all) where
+  pub zeros-next : i < length d → (ok && eqb (getD d i 0) 0) && areZeros (drop (i + 1) d) ≡ all
   unfolding areZeros
-  none-left = ap areZeros (drop-of-length-le d {i = 368} (omega (arith, long)))
+  zeros-next h =
+      and-assoc ok (eqb (getD d i 0) 0) (areZeros (drop (i + 1) d))
+      ∙ ap (λ (b : Bool). ok && b) (ap (λ (k : ℕ). eqb (getD d i 0) 0 && areZeros (drop k d)) (add-one i) ∙ sym (ap areZeros (drop-cons d i 0 h)))
+      ∙ e
 
-  spare-is : areZeros (drop 346 d) ≡ eqb (littleAt d 346 6) 0 && (eqb (littleAt d 352 8) 0 && eqb (littleAt d 360 8) 0)
-  spare-is =
-      zeros-split 346 6 (omega arith)
-      ∙ ap (λ (b : Bool). eqb (littleAt d 346 6) 0 && b)
-      (zeros-split 352 8 (omega arith)
-      ∙ ap (λ (b : Bool). eqb (littleAt d 352 8) 0 && b) (zeros-split 360 8 (omega arith) ∙ ap (λ (b : Bool). eqb (littleAt d 360 8) 0 && b) none-left ∙ and-true (eqb (littleAt d 360 8) 0)))
-    where
-      and-true : (b : Bool) → b && true ≡ b
-      and-true true = refl
-      and-true false = refl
+  pub zeros-done : length d ≤ i → ok ≡ all
+  unfolding areZeros
+  zeros-done h = sym (and-true ok) ∙ ap (λ (b : Bool). ok && b) (sym (ap areZeros (drop-of-length-le d {i = i} h))) ∙ e
 
-  five : (a b x y z : Bool) → (((a && b) && x) && y) && z ≡ a && (b && (x && (y && z)))
-  five true true true y z = refl
-  five true true false y z = refl
-  five true false x y z = refl
-  five false b x y z = refl
+pub ruleset spare = (zeros-next, zeros-done, arith)
 
-  -- each number as the code reads it
-  pub session-test : (x y z : ℕ) → x ≡ ifThere d 346 6 (littleAt d 346 6) → y ≡ ifThere d 352 8 (littleAt d 352 8) → z ≡ ifThere d 360 8 (littleAt d 360 8)
-      → (((ltb (getD d 344 0) 3 && ltb (getD d 345 0) 2) && eqb x 0) && eqb y 0) && eqb z 0 ≡ isSession d
-  unfolding isSession
-  session-test x y z p q r =
-      let a : x ≡ littleAt d 346 6 = p ∙ if-there d 346 6 (littleAt d 346 6) (omega arith) (omega (arith, long)) in
-      let b : y ≡ littleAt d 352 8 = q ∙ if-there d 352 8 (littleAt d 352 8) (omega arith) (omega (arith, long)) in
-      let c : z ≡ littleAt d 360 8 = r ∙ if-there d 360 8 (littleAt d 360 8) (omega arith) (omega (arith, long)) in
-      five (ltb (getD d 344 0) 3) (ltb (getD d 345 0) 2) (eqb x 0) (eqb y 0) (eqb z 0)
-      ∙ rw (a, b, c, ← spare-is) (sym (simp (eq-eqb (length d) 368 long)))
+pub session-test : (d : List ℕ) → length d ≡ 368 → (z : Bool) → z ≡ areZeros (drop 346 d) → (ltb (getD d 344 0) 3 && ltb (getD d 345 0) 2) && z ≡ isSession d
+unfolding isSession
+session-test d long z e =
+    ap (λ (b : Bool). (ltb (getD d 344 0) 3 && ltb (getD d 345 0) 2) && b) e
+    ∙ and-assoc (ltb (getD d 344 0) 3) (ltb (getD d 345 0) 2) (areZeros (drop 346 d))
+    ∙ sym (simp (eq-eqb (length d) 368 long))
 
 pub session-short : (d : List ℕ) → (length d ≡ 368 → ⊥) → false ≡ isSession d
 unfolding isSession

@@ -1,13 +1,17 @@
 -- What the code does in an open session is what the definitions say, branch by branch. Assumes nothing.
 use mathlib.Core.Path.{_≡_, refl, sym, ap, _∙_}
-use mathlib.Core.Bool.{Bool, true, false, not}
+use mathlib.Core.Bool.{Bool, true, false, not, _&&_}
+use mathlib.Core.Logic.{_⊎_, inl, inr, ⊎-elim}
+use mathlib.Core.List.{List}
 use mathlib.Core.Option.{some, none}
 use Prim.Native.Nat.{ℕ, _<_}
+use lib.Dec.{eqb}
 use lib.IntN.{ℤ}
 use lib.Signed.{mag, leZ}
 use mir.Syntax.{w64}
 use mir.Val.{toZ, ofZ}
-use borrow.Author.Tests.{ne-eqb}
+use borrow.Author.Tests.{ne-eqb, eqb-true, eqb-false}
+use Rattle.octets.proofs.Ranges.{true-false}
 use Rattle.octets.specs.Choice.{either}
 use Rattle.names.specs.Names.{commands, placeIn, commandOf}
 use Rattle.message.specs.declared.Message.{Message}
@@ -18,6 +22,7 @@ use Rattle.session.specs.Kinds.{Operation, stationStarts, centreStarts, operati
 use Rattle.session.specs.Happened.{isIssued}
 use Rattle.session.specs.Arrive.{Outcome, below, highestOf, withCentre, starts, startAt, whenOpen}
 use Rattle.session.specs.Centre.{beginAt, begins, kindBegins}
+use Rattle.steps.specs.Called.{Called, calledBy}
 use Rattle.steps.proofs.Knowing.{le-kept}
 
 not-false : (b : Bool) → true ≡ not b → b ≡ false
@@ -44,11 +49,47 @@ module _ (s : Session) (h : Host) (z : ℤ) (c : ℕ) where
   no-command a b d e f g i j k l =
       simp (ne-eqb 9 c (λ p. a (sym p)), ne-eqb 3 c (λ p. b (sym p)), ne-eqb 7 c (λ p. d (sym p)), ne-eqb 11 c (λ p. e (sym p)), ne-eqb 14 c (λ p. f (sym p)), ne-eqb 20 c (λ p. g (sym p)), ne-eqb 10 c (λ p. i (sym p)), ne-eqb 2 c (λ p. j (sym p)), ne-eqb 15 c (λ p. k (sym p)), ne-eqb 17 c (λ p. l (sym p)))
 
--- and what the centre starts
+-- and what the centre starts: none of four, or one of them
+abbrev noneOf : Bool → Bool → Bool → Bool → Bool
+noneOf w x y z = ((not w && not x) && not y) && not z
+
+none-of : (w x y z : Bool) → noneOf w x y z ≡ true → (w ≡ false) × (x ≡ false) × (y ≡ false) × (z ≡ false)
+none-of false false false false e = (refl, refl, refl, refl)
+none-of false false false true e = true-false (sym e)
+none-of false false true z e = true-false (sym e)
+none-of false true y z e = true-false (sym e)
+none-of true x y z e = true-false (sym e)
+
+one-of : (w x y z : Bool) → noneOf w x y z ≡ false → (w ≡ true) ⊎ ((x ≡ true) ⊎ ((y ≡ true) ⊎ (z ≡ true)))
+one-of true x y z e = inl refl
+one-of false true y z e = inr (inl refl)
+one-of false false true z e = inr (inr (inl refl))
+one-of false false false true e = inr (inr (inr refl))
+one-of false false false false e = true-false e
+
 module _ (s : Session) (m : Message) (c : ℕ) where
-  pub no-kind : (c ≡ 9 → ⊥) → (c ≡ 12 → ⊥) → (c ≡ 5 → ⊥) → (c ≡ 6 → ⊥) → kindBegins s c m ≡ Outcome.refused 17
+  unlike : (k : ℕ) → eqb c k ≡ false → eqb k c ≡ false
+  unlike k e = ne-eqb k c (λ p. eqb-false c k e (sym p))
+
+  pub no-kind : noneOf (eqb c 9) (eqb c 12) (eqb c 5) (eqb c 6) ≡ true → kindBegins s c m ≡ Outcome.refused 17
   unfolding operationBy centreStarts commandOf commands placeIn
-  no-kind a b d e = simp (ne-eqb 9 c (λ p. a (sym p)), ne-eqb 12 c (λ p. b (sym p)), ne-eqb 5 c (λ p. d (sym p)), ne-eqb 6 c (λ p. e (sym p)))
+  no-kind t =
+      let n = none-of (eqb c 9) (eqb c 12) (eqb c 5) (eqb c 6) t in
+      simp (unlike 9 (n .0), unlike 12 (n .1), unlike 5 (n .2), unlike 6 (n .3))
+
+  -- a call that is its step, whatever its Rsp and Cmp
+  module _ (d room : List ℕ) (x : Called) (w : (a b : ℕ) → x ≡ calledBy d room (begins s (record { start = c; rsp = a; cmp = b }) m)) where
+    kind-at : (k a b : ℕ) → kindBegins s k m ≡ begins s (record { start = k; rsp = a; cmp = b }) m → eqb c k ≡ true → x ≡ calledBy d room (kindBegins s c m)
+    kind-at k a b e t =
+        let p : c ≡ k = eqb-true c k t in
+        w a b ∙ ap (λ (n : ℕ). calledBy d room (begins s (record { start = n; rsp = a; cmp = b }) m)) p ∙ ap (calledBy d room) (sym e)
+        ∙ ap (λ (n : ℕ). calledBy d room (kindBegins s n m)) (sym p)
+
+    pub a-kind : noneOf (eqb c 9) (eqb c 12) (eqb c 5) (eqb c 6) ≡ false → x ≡ calledBy d room (kindBegins s c m)
+    unfolding operationBy centreStarts commandOf commands placeIn
+    a-kind t =
+        ⊎-elim (kind-at 9 10 11 refl) (⊎-elim (kind-at 12 2 13 refl) (⊎-elim (kind-at 5 15 16 refl) (kind-at 6 17 18 refl)))
+        (one-of (eqb c 9) (eqb c 12) (eqb c 5) (eqb c 6) t)
 
 -- a place for the centre's operation: its record fits or not, and the writer says which
 module _ (s : Session) (o : Operation) (m : Message) (i : ℕ) (e : freePlace (s .centre) ≡ some i) where

@@ -1,36 +1,77 @@
--- The replies as the code builds them: the parts that they have, and zeros. Assumes nothing.
-use mathlib.Core.Path.{_≡_, sym, _∙_}
-use mathlib.Core.Bool.{Bool, true, false}
-use mathlib.Core.List.{List, _++_, append-nil}
-use Prim.Native.Nat.{ℕ, _-_}
+-- The replies as the code has them written, from their fields: they are the rule's records, which fit, since their bytes are bytes and their numbers
+-- have their widths. Assumes nothing.
+use mathlib.Core.Path.{_≡_, refl, sym, subst, _∙_}
+use mathlib.Core.Bool.{Bool, true}
+use mathlib.Core.List.{List, [], _∷_, _++_, append-nil}
+use Prim.Native.Nat.{ℕ, zero, suc, _+_, _-_, _<_}
 use native.Mathlib.Omega.{arith}
 use lib.IntN.{ℤ, pos}
-use lib.ListN.{length, replicate}
-use borrow.Author.Tests.{eq-eqb, ne-eqb}
-use Rattle.names.specs.Names.{commands, placeIn, commandOf, bytes}
+use lib.ListN.{length, take, drop, replicate}
+use lib.Pow.{areBytes}
+use lib.Seq.{getD-drop, take-all}
+use mir.Syntax.{w64}
+use mir.Val.{SFits, toZ, ofZ}
+use mir.ValLaws.{toZ-ofZ}
+use borrow.Author.Tests.{eq-eqb, ne-eqb, lt-ltb}
+use Rattle.octets.specs.Bytes.{IsBytes}
+use Rattle.names.specs.Names.{commands, placeIn, commandOf}
 use Rattle.message.specs.Record.{messageOf}
 use Rattle.message.specs.declared.Message.{Message}
+use Rattle.saying.specs.Fits.{fits}
+use Rattle.writing.specs.declared.Written.{Written}
+use Rattle.writing.specs.Write.{writtenOf, roomOf}
 use Rattle.session.specs.Session.{Host}
 use Rattle.session.specs.Arrive.{bareOf, conRspOf, detRspOf, rspOf}
-use Rattle.steps.specs.Reply.{replyOf}
+use Rattle.steps.specs.Reply.{IsBare, IsRsp}
+use Rattle.steps.proofs.Replying.{bare-fits, det-rsp-fits, con-rsp-fits}
+
+-- bytes are bytes
+first-octets : (n : ℕ) (d : List ℕ) → IsBytes d → areBytes (take n d) ≡ true
+first-octets zero d b = refl
+first-octets (suc n) [] b = refl
+first-octets (suc n) (x ∷ d) b = rw (lt-ltb x 256 (b 0)) (first-octets n d (λ k. b (suc k)))
+
+octets : (n : ℕ) (d : List ℕ) → IsBytes d → length d ≡ n → areBytes d ≡ true
+octets n d b l = rw (take-all n d (omega arith)) at (first-octets n d b)
+
+pub part-octets : (n at : ℕ) (d : List ℕ) → IsBytes d → areBytes (take n (drop at d)) ≡ true
+part-octets n at d b = first-octets n (drop at d) (λ k. rw (getD-drop at d k 0) (b (at + k)))
 
 -- bytes that fill their place
 full : (n : ℕ) (d : List ℕ) → length d ≡ n → d ++ replicate (n - length d) 0 ≡ d
 full n d e = let z : n - length d ≡ 0 = omega arith in rw z (append-nil d)
 
-pub con-rsp-is : (h : Host) (r : Bool) (u : List ℕ) → length u ≡ 16
-    → replyOf 1 (pos 0) (record { here = true; major = 1; minor = 0; patch = 0 }) (h .scEui) r u (replicate 4 0) ≡ conRspOf h r u
-unfolding replyOf messageOf commandOf commands placeIn
-con-rsp-is h r u e = rw (full 16 u e)
+-- a message that is written, or for which there is no room
+abbrev pub Sends : List ℕ → List ℕ → Written → Message → Type 0
+Sends room after x m = (x ≡ writtenOf m room) × (after ≡ roomOf m room)
 
-pub det-rsp-is : (z : ℤ) (g : List ℕ) → length g ≡ 4 → replyOf 4 z (record { here = false; major = 0; minor = 0; patch = 0 }) 0 false (replicate 16 0) g ≡ detRspOf z g
-unfolding replyOf messageOf commandOf commands placeIn
-det-rsp-is z g e = rw (full 4 g e)
+module _ (room after : List ℕ) (x : Written) where
+  module _ (z : ℤ) (f : SFits w64 z) where
+    pub bare-sent : (c : ℕ) → IsBare c → ((m : Message) → true ≡ fits m → m .command ≡ c → m .«op_id» ≡ toZ w64 (ofZ w64 z) → Sends room after x m) → Sends room after x (bareOf c z)
+    unfolding messageOf
+    bare-sent c k w = w (bareOf c z) (sym (bare-fits z (f .sfits) c (k .0) (k .1))) refl (sym (toZ-ofZ w64 z f))
 
-pub rsp-det : (h : Host) (c : ℕ) (z : ℤ) (m : Message) → c ≡ 4 → m ≡ detRspOf z (h .sign) → m ≡ rspOf h c z
-unfolding commandOf commands placeIn
-rsp-det h c z m e p = p ∙ sym (simp (eq-eqb c 4 e))
+    module _ (h : Host) (c : ℕ) where
+      rsp-is-bare : (c ≡ 4 → ⊥) → rspOf h c z ≡ bareOf c z
+      unfolding commandOf commands placeIn
+      rsp-is-bare n = simp (ne-eqb c 4 n)
 
-pub rsp-bare : (h : Host) (c : ℕ) (z : ℤ) (m : Message) → (c ≡ 4 → ⊥) → m ≡ bareOf c z → m ≡ rspOf h c z
-unfolding commandOf commands placeIn
-rsp-bare h c z m e p = p ∙ sym (simp (ne-eqb c 4 e))
+      rsp-is-det : c ≡ 4 → rspOf h c z ≡ detRspOf z (h .sign)
+      unfolding commandOf commands placeIn
+      rsp-is-det e = simp (eq-eqb c 4 e)
+
+      pub rsp-bare : (c ≡ 4 → ⊥) → IsRsp c → ((m : Message) → true ≡ fits m → m .command ≡ c → m .«op_id» ≡ toZ w64 (ofZ w64 z) → Sends room after x m) → Sends room after x (rspOf h c z)
+      rsp-bare n k w = subst (Sends room after x) (sym (rsp-is-bare n)) (bare-sent c (k n) w)
+
+      pub rsp-det : c ≡ 4 → (four : List ℕ) → four ≡ h .sign → length (h .sign) ≡ 4 → IsBytes (h .sign)
+          → ((m : Message) → true ≡ fits m → m .command ≡ 4 → m .«op_id» ≡ toZ w64 (ofZ w64 z) → m .sign ≡ four → Sends room after x m) → Sends room after x (rspOf h c z)
+      unfolding messageOf commandOf commands placeIn
+      rsp-det e four p l b w =
+          subst (Sends room after x) (sym (rsp-is-det e))
+          (w (detRspOf z (h .sign)) (sym (det-rsp-fits z (f .sfits) (h .sign) l (octets 4 (h .sign) b l))) refl (sym (toZ-ofZ w64 z f)) (full 4 (h .sign) l ∙ sym p))
+
+  pub con-rsp-sent : (h : Host) (b : Bool) (own : List ℕ) → h .scEui < 0x10000000000000000 → length own ≡ 16 → areBytes own ≡ true
+      → ((m : Message) → true ≡ fits m → m .command ≡ 1 → m .«op_id» ≡ pos 0 → m .version ≡ record { here = true; major = 1; minor = 0; patch = 0 } → m .«sc_eui» ≡ h .scEui
+      → m .«sn_resume» ≡ b → m .«sn_sc_uuid» ≡ own → Sends room after x m) → Sends room after x (conRspOf h b own)
+  unfolding messageOf commandOf commands placeIn
+  con-rsp-sent h b own e l o w = w (conRspOf h b own) (sym (con-rsp-fits h b own e l o)) refl refl refl refl refl (full 16 own l)

@@ -12,7 +12,7 @@ use lib.Ieee.{ofBits, ofFields, odd, toBits, size, span, climb, fits as holds}
 use lib.ListN.{length}
 use lib.Pow.{areBytes}
 use lib.Signed.{mag}
-use borrow.Author.Tests.{le-leb}
+use borrow.Author.Tests.{le-leb, lt-ltb}
 use Rattle.octets.specs.Choice.{either}
 use Rattle.names.specs.Names.{commands, placeIn, nameAt, bytes, commandOf}
 use Rattle.field.specs.Kind.{kinds, kindIn}
@@ -22,6 +22,7 @@ use Rattle.message.specs.Record.{messageOf}
 use Rattle.message.specs.declared.Message.{Message}
 use Rattle.saying.specs.Says.{rowsOf, partIn}
 use Rattle.saying.specs.Fits.{within, allFit, isIn, othersBlank, fits}
+use Rattle.writing.proofs.Bodies.{short-list}
 use Rattle.session.specs.Session.{State, Session, Host}
 use Rattle.session.specs.Session.State.{Waiting, Connecting, Open}
 use Rattle.session.specs.Place.{sameId, freePlace, placeOf}
@@ -35,15 +36,15 @@ signed-in (negsuc k) h = le-leb (suc k) 0x8000000000000000 h
 
 -- the replies of a station's start and of its answers to the centre
 module _ (z : ℤ) (h : mag z < 0x8000000000000000) where
-  bare-fit : (fits (bareOf 10 z) ≡ true) × (fits (bareOf 19 z) ≡ true) × (fits (bareOf 11 z) ≡ true) × (fits (bareOf 13 z) ≡ true) × (fits (bareOf 16 z) ≡ true) × (fits (bareOf 18 z) ≡ true)
-  unfolding fits allFit othersBlank isIn rowsOf within messageOf lists listIn partIn kinds kindIn commands placeIn nameAt commandOf ofBits ofFields odd toBits size span climb holds
-  bare-fit = (simp (signed-in z h), simp (signed-in z h), simp (signed-in z h), simp (signed-in z h), simp (signed-in z h), simp (signed-in z h))
+  pub bare-fits : (c : ℕ) → 7 < c → c < 21 → fits (bareOf c z) ≡ true
+  unfolding fits allFit othersBlank isIn rowsOf within messageOf partIn kinds kindIn ofBits ofFields odd toBits size span climb holds
+  bare-fits c l u = simp (lt-ltb c 21 u, short-list c l, signed-in z h)
 
-  det-rsp-fits : (g : List ℕ) → length g ≡ 4 → areBytes g ≡ true → fits (detRspOf z g) ≡ true
+  pub det-rsp-fits : (g : List ℕ) → length g ≡ 4 → areBytes g ≡ true → fits (detRspOf z g) ≡ true
   unfolding fits allFit othersBlank isIn rowsOf within messageOf lists listIn partIn kinds kindIn commands placeIn nameAt commandOf ofBits ofFields odd toBits size span climb holds
   det-rsp-fits g l b = simp (signed-in z h, l) (simp (append-nil g, l, b))
 
-con-rsp-fits : (e : Host) (r : Bool) (u : List ℕ) → e .scEui < 0x10000000000000000 → length u ≡ 16 → areBytes u ≡ true → fits (conRspOf e r u) ≡ true
+pub con-rsp-fits : (e : Host) (r : Bool) (u : List ℕ) → e .scEui < 0x10000000000000000 → length u ≡ 16 → areBytes u ≡ true → fits (conRspOf e r u) ≡ true
 unfolding fits allFit othersBlank isIn rowsOf within messageOf lists listIn partIn kinds kindIn commands placeIn nameAt commandOf ofBits ofFields odd toBits size span climb holds
 con-rsp-fits e r u h l b = simp (le-leb (e .scEui) 0xFFFFFFFFFFFFFFFF (omega arith), l) (simp (append-nil u, l, b))
 
@@ -112,15 +113,18 @@ module _ (s : Session) (m : Message) (h : Host) (a : Able s m h) where
   answered : (o : Operation) → fits (bareOf (o .cmp) (m .«op_id»)) ≡ true → Fitting (respondAt s o (m .«op_id») (placeOf (m .«op_id») (o .start) (s .centre)))
   answered o e = at-rsp o (placeOf (m .«op_id») (o .start) (s .centre)) e
 
+  bare : (c : ℕ) → 7 < c → c < 21 → fits (bareOf c (m .«op_id»)) ≡ true
+  bare = bare-fits (m .«op_id») (a .id)
+
   all-started : Each (λ o. Fitting (starts s h o (m .«op_id»))) stationStarts
   unfolding stationStarts commandOf commands placeIn
   all-started =
-      (started _ (bare-fit (m .«op_id») (a .id) .0), (started _ (det-rsp-fits (m .«op_id») (a .id) (h .sign) (a .sign .0) (a .sign .1)), (started _ (bare-fit (m .«op_id») (a .id) .1), tt)))
+      (started _ (bare 10 (omega arith) (omega arith)), (started _ (det-rsp-fits (m .«op_id») (a .id) (h .sign) (a .sign .0) (a .sign .1)), (started _ (bare 19 (omega arith) (omega arith)), tt)))
 
   all-answered : Each (λ o. Fitting (respondAt s o (m .«op_id») (placeOf (m .«op_id») (o .start) (s .centre)))) centreStarts
   unfolding centreStarts commandOf commands placeIn
   all-answered =
-      (answered _ (bare-fit (m .«op_id») (a .id) .2), (answered _ (bare-fit (m .«op_id») (a .id) .3), (answered _ (bare-fit (m .«op_id») (a .id) .4), (answered _ (bare-fit (m .«op_id») (a .id) .5), tt))))
+      (answered _ (bare 11 (omega arith) (omega arith)), (answered _ (bare 13 (omega arith) (omega arith)), (answered _ (bare 16 (omega arith) (omega arith)), (answered _ (bare 18 (omega arith) (omega arith)), tt))))
 
   all-completed : (l : List Operation) → Each (λ o. Fitting (completeAt s (placeOf (m .«op_id») (o .start) (s .station)))) l
   all-completed [] = tt

@@ -12,7 +12,6 @@ use crate::lies::STORED;
 use crate::lies::highest_of;
 use crate::lies::lowest_of;
 use crate::refused;
-use crate::reply::con_rsp;
 use crate::stored::begin_anew;
 use message::MaybeId;
 use message::Message;
@@ -87,7 +86,7 @@ fn resume(d: &mut [u8], sc_eui: u64, room: &mut [u8]) -> Answer
         (calledBy (now (d .entry)) (now (room .entry)) (Outcome.replies isResumed (resumed (sessionAt (now (d .entry)))) (conRspOf (hostOf «sc_eui» u g) true (sessionAt (now (d .entry)) .snScUuid))))) ⌝ }
 {
     let uuid = bytes16(d, SC_UUID);
-    let w = writing::write(con_rsp(sc_eui, true, uuid), room);
+    let w = writing::write_con_rsp(sc_eui, true, uuid, room);
     match w {
         Written::Refused(k) => refused(k),
         Written::Whole(n) => {
@@ -103,7 +102,7 @@ fn anew(d: &mut [u8], m: Message, sc_eui: u64, uuid: &[u8], room: &mut [u8]) -> 
         (calledBy (now (d .entry)) (now (room .entry)) (Outcome.replies isBegun (begun (hostOf «sc_eui» (now (uuid .entry)) g) m) (conRspOf (hostOf «sc_eui» (now (uuid .entry)) g) false (now (uuid .entry)))))) ⌝ }
 {
     let own = bytes16(uuid, 0);
-    let w = writing::write(con_rsp(sc_eui, false, own), room);
+    let w = writing::write_con_rsp(sc_eui, false, own, room);
     match w {
         Written::Refused(k) => refused(k),
         Written::Whole(n) => {

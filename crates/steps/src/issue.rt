@@ -22,13 +22,10 @@ pub fn begins(d: &mut [u8], m: Message, room: &mut [u8]) -> Answer
     ensures { λ r. ⌜ _≡_ {A = Called} (called r (now (d .exit)) (now (room .exit))) (calledBy (now (d .entry)) (now (room .entry)) (kindBegins (sessionAt (now (d .entry))) (m .command) m)) ⌝ }
 {
     let command = m.command;
-    match command {
-        9 => issues(d, m, room),
-        12 => issues(d, m, room),
-        5 => issues(d, m, room),
-        6 => issues(d, m, room),
-        _ => refused(17),
+    if (command != 9) & (command != 12) & (command != 5) & (command != 6) {
+        return refused(17);
     }
+    issues(d, m, room)
 }
 
 // One below the last, down to the least that there is (18).

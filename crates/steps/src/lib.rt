@@ -6,7 +6,6 @@ mod issue;
 mod lies;
 mod operate;
 mod places;
-mod reply;
 mod stored;
 
 use lies::OPEN;

@@ -3,9 +3,9 @@ use octets::little_at;
 use octets::signed_of;
 ghost use mathlib.Core.Path.{_≡_};
 ghost use Prim.Native.Nat.{_+_, _≤_};
-ghost use lib.ListN.{length};
+ghost use lib.ListN.{length, drop};
 ghost use Rattle.session.specs.Arrive.{highestOf, lowestOf};
-ghost use Rattle.session.specs.Image.{idAt, sessionAt, isSession};
+ghost use Rattle.session.specs.Image.{idAt, sessionAt, areZeros, isSession};
 ghost use Rattle.steps.specs.Lies.{Lies};
 
 pub const SIZE: usize = 368;
@@ -30,24 +30,36 @@ pub const STATE: usize = 344;
 
 pub const STORED: usize = 345;
 
+pub const SPARE: usize = 346;
+
 pub const WAITING: u8 = 0;
 
 pub const CONNECTING: u8 = 1;
 
 pub const OPEN: u8 = 2;
 
-// Whether the bytes are some session's. The spare bytes are tested as three numbers.
+// Whether the bytes are some session's.
 pub fn is_session(d: &[u8]) -> bool
     ensures { λ r. ⌜ r ≡ isSession (now (d .entry)) ⌝ }
 {
     if d.len() != SIZE {
         return false;
     }
-    (d[STATE] < 3)
-        & (d[STORED] < 2)
-        & (little_at(d, 346, 6) == 0)
-        & (little_at(d, 352, 8) == 0)
-        & (little_at(d, 360, 8) == 0)
+    (d[STATE] < 3) & (d[STORED] < 2) & spare_is_zero(d)
+}
+
+// All bytes are looked at, so that a few instructions do.
+fn spare_is_zero(d: &[u8]) -> bool
+    requires { ⌜ length (now d) ≡ 368 ⌝ }
+    ensures { λ r. ⌜ r ≡ areZeros (drop 346 (now (d .entry))) ⌝ }
+{
+    let mut i = SPARE;
+    let mut ok = true;
+    while i < SIZE {
+        ok = ok & (d[i] == 0);
+        i += 1;
+    }
+    ok
 }
 
 // The operation ID that stands at a place.

@@ -10,8 +10,6 @@ use crate::lies::highest_of;
 use crate::places::free_place;
 use crate::places::place_of;
 use crate::refused;
-use crate::reply::bare;
-use crate::reply::rsp;
 use crate::stored::free_centre;
 use crate::stored::free_station;
 use crate::stored::take_station;
@@ -20,11 +18,13 @@ ghost use mathlib.Core.Path.{_≡_};
 ghost use mathlib.Core.List.{List};
 ghost use Prim.Native.Nat.{ℕ};
 ghost use lib.ListN.{length};
+ghost use Rattle.writing.specs.Write.{writtenOf, roomOf};
 ghost use Rattle.session.specs.Place.{freePlace, placeOf};
 ghost use Rattle.session.specs.Kinds.{Operation};
-ghost use Rattle.session.specs.Arrive.{whenOpen, starts, startAt, completeAt, respondAt};
+ghost use Rattle.session.specs.Arrive.{rspOf, whenOpen, starts, startAt, completeAt, respondAt};
 ghost use Rattle.session.specs.Image.{sessionAt};
 ghost use Rattle.steps.specs.Lies.{Lies};
+ghost use Rattle.steps.specs.Reply.{IsBare, IsRsp};
 ghost use Rattle.steps.specs.Called.{Called, called, calledBy, hostOf};
 
 pub fn in_open(d: &mut [u8], command: u8, id: i64, sign: &[u8], room: &mut [u8]) -> Answer
@@ -49,7 +49,7 @@ pub fn in_open(d: &mut [u8], command: u8, id: i64, sign: &[u8], room: &mut [u8])
 
 // A station starts with an ID above the highest known and above 0 (18).
 fn starts(d: &mut [u8], start: u8, answer: u8, id: i64, sign: &[u8], room: &mut [u8]) -> Answer
-    requires { ⌜ Lies (now d) × (length (now sign) ≡ 4) ⌝ }
+    requires { ⌜ Lies (now d) × (length (now sign) ≡ 4) × IsRsp answer ⌝ }
     ensures { λ r. ⌜ ((e cmp : ℕ) (u : List ℕ) → _≡_ {A = Called} (called r (now (d .exit)) (now (room .exit)))
         (calledBy (now (d .entry)) (now (room .entry)) (starts (sessionAt (now (d .entry))) (hostOf e u (now (sign .entry))) (record { start = start; rsp = answer; cmp = cmp }) id))) ⌝ }
 {
@@ -61,7 +61,7 @@ fn starts(d: &mut [u8], start: u8, answer: u8, id: i64, sign: &[u8], room: &mut 
 
 // With a free place (19); the reply is the Rsp.
 fn start_at(d: &mut [u8], start: u8, answer: u8, id: i64, sign: &[u8], room: &mut [u8]) -> Answer
-    requires { ⌜ Lies (now d) × (length (now sign) ≡ 4) ⌝ }
+    requires { ⌜ Lies (now d) × (length (now sign) ≡ 4) × IsRsp answer ⌝ }
     ensures { λ r. ⌜ ((e cmp : ℕ) (u : List ℕ) → _≡_ {A = Called} (called r (now (d .exit)) (now (room .exit)))
         (calledBy (now (d .entry)) (now (room .entry)) (startAt (sessionAt (now (d .entry))) (hostOf e u (now (sign .entry))) (record { start = start; rsp = answer; cmp = cmp }) id (freePlace (sessionAt (now (d .entry)) .station))))) ⌝ }
 {
@@ -69,8 +69,7 @@ fn start_at(d: &mut [u8], start: u8, answer: u8, id: i64, sign: &[u8], room: &mu
     if i == 16 {
         return refused(19);
     }
-    let four = bytes4(sign);
-    let w = writing::write(rsp(answer, id, four), room);
+    let w = write_rsp(answer, id, sign, room);
     match w {
         Written::Refused(k) => refused(k),
         Written::Whole(n) => {
@@ -78,6 +77,18 @@ fn start_at(d: &mut [u8], start: u8, answer: u8, id: i64, sign: &[u8], room: &mu
             done(4, n)
         }
     }
+}
+
+// detRsp carries the host's sign.
+fn write_rsp(answer: u8, id: i64, sign: &[u8], room: &mut [u8]) -> Written
+    requires { ⌜ (length (now sign) ≡ 4) × IsRsp answer ⌝ }
+    ensures { λ r. ⌜ ((e : ℕ) (u : List ℕ) → (r ≡ writtenOf (rspOf (hostOf e u (now (sign .entry))) answer id) (now (room .entry)))
+        × (now (room .exit) ≡ roomOf (rspOf (hostOf e u (now (sign .entry))) answer id) (now (room .entry)))) ⌝ }
+{
+    if answer == 4 {
+        return writing::write_det_rsp(id, bytes4(sign), room);
+    }
+    writing::write_bare(answer, id, room)
 }
 
 // The entry is freed by a Cmp of the same kind and ID.
@@ -96,7 +107,7 @@ fn completes(d: &mut [u8], start: u8, id: i64) -> Answer
 
 // A matching Rsp is replied to with Cmp and frees the entry.
 fn answers(d: &mut [u8], start: u8, complete: u8, id: i64, room: &mut [u8]) -> Answer
-    requires { ⌜ Lies (now d) ⌝ }
+    requires { ⌜ Lies (now d) × IsBare complete ⌝ }
     ensures { λ r. ⌜ ((rsp : ℕ) → _≡_ {A = Called} (called r (now (d .exit)) (now (room .exit)))
         (calledBy (now (d .entry)) (now (room .entry)) (respondAt (sessionAt (now (d .entry))) (record { start = start; rsp = rsp; cmp = complete }) id (placeOf id start (sessionAt (now (d .entry)) .centre))))) ⌝ }
 {
@@ -104,7 +115,7 @@ fn answers(d: &mut [u8], start: u8, complete: u8, id: i64, room: &mut [u8]) -> A
     if i == 16 {
         return refused(17);
     }
-    let w = writing::write(bare(complete, id), room);
+    let w = writing::write_bare(complete, id, room);
     match w {
         Written::Refused(k) => refused(k),
         Written::Whole(n) => {

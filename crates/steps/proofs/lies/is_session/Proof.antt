@@ -1,4 +1,4 @@
--- A length other than a session's is none, and of its length the five tests are the definition's. Assumes nothing.
+-- A length other than a session's is none, and of its length the three tests are the definition's. Assumes nothing.
 use borrow.Author.Needs.{needs}
 use Rattle.steps.proofs.Lying.{session-short, session-test}
 use Rattle.steps.proofs.lies.is_session.Statement.{statement}
@@ -13,26 +13,11 @@ shared-slice-read-result c = search needs
 shared-slice-read-result-2 : tie.Need-shared-slice-read-result-2
 shared-slice-read-result-2 c = search needs
 
-little-at-requires : tie.Need-little-at-requires
-little-at-requires c κs = search needs
-
-little-at-requires-2 : tie.Need-little-at-requires-2
-little-at-requires-2 c κs = search needs
-
-little-at-requires-3 : tie.Need-little-at-requires-3
-little-at-requires-3 c κs = search needs
+spare-is-zero-requires : tie.Need-spare-is-zero-requires
+spare-is-zero-requires c κs = search needs
 
 returns-2 : tie.Need-returns-2
 returns-2 c = search (session-test, needs)
 
 pub is-session-spec : {M : Type 1} → statement M
-is-session-spec =
-    tie.close
-    (tie.spec
-    returns
-    shared-slice-read-result
-    shared-slice-read-result-2
-    little-at-requires
-    little-at-requires-2
-    little-at-requires-3
-    returns-2)
+is-session-spec = tie.close (tie.spec returns shared-slice-read-result shared-slice-read-result-2 spare-is-zero-requires returns-2)

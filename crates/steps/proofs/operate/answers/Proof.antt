@@ -1,5 +1,4 @@
 -- A Rsp with an entry of its kind and ID is replied to and frees it. Assumes nothing.
-use native.Mathlib.Omega.{arith}
 use borrow.Author.Needs.{needs}
 use Rattle.steps.proofs.Storing.{long}
 use Rattle.steps.proofs.Branches.{branches}
@@ -18,11 +17,8 @@ same-length c = search (branches, long, needs)
 returns : tie.Need-returns
 returns c rsp = search (branches, long, needs)
 
-bare-requires : tie.Need-bare-requires
-bare-requires c κs = search (branches, long, needs)
-
-write-requires : tie.Need-write-requires
-write-requires c κs = search (branches, long, needs)
+write-bare-requires : tie.Need-write-bare-requires
+write-bare-requires c κs = search (branches, long, needs)
 
 enum-known-w : tie.Need-enum-known-w
 enum-known-w c = search (branches, long, needs)
@@ -58,23 +54,4 @@ returns-3 : tie.Need-returns-3
 returns-3 c rsp = search (branches, long, needs)
 
 pub answers-spec : {M : Type 1} → statement M
-answers-spec =
-    tie.close
-    (tie.spec
-    place-of-requires
-    refused-requires
-    same-length
-    returns
-    bare-requires
-    write-requires
-    enum-known-w
-    refused-requires-2
-    enum-known-w-2
-    free-centre-requires
-    done-requires
-    same-length-2
-    same-length-3
-    returns-2
-    same-length-4
-    same-length-5
-    returns-3)
+answers-spec = tie.close (tie.spec place-of-requires refused-requires same-length returns write-bare-requires enum-known-w refused-requires-2 enum-known-w-2 free-centre-requires done-requires same-length-2 same-length-3 returns-2 same-length-4 same-length-5 returns-3)

@@ -1,4 +1,6 @@
 -- Each command that an open session knows, by its number. Assumes nothing.
+use mathlib.Core.Path.{refl}
+use native.Mathlib.Omega.{arith}
 use mir.Syntax.{w64}
 use mir.ValLaws.{toZ-ofZ}
 use Rattle.names.specs.Names.{commands, placeIn, commandOf}
@@ -14,13 +16,13 @@ use Rattle.steps.proofs.operate.in_open.Statement.{statement}
 use Rattle.steps.proofs.operate.in_open.Tie as tie
 
 starts-requires : tie.Need-starts-requires
-starts-requires c κs = search needs
+starts-requires c κs = (search needs, search needs, λ n. (omega arith, omega arith))
 
 starts-requires-2 : tie.Need-starts-requires-2
-starts-requires-2 c κs = search needs
+starts-requires-2 c κs = (search needs, search needs, λ n. absurd (n refl))
 
 starts-requires-3 : tie.Need-starts-requires-3
-starts-requires-3 c κs = search needs
+starts-requires-3 c κs = (search needs, search needs, λ n. (omega arith, omega arith))
 
 completes-requires : tie.Need-completes-requires
 completes-requires c κs = search needs

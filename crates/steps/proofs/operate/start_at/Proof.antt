@@ -1,5 +1,4 @@
 -- A start takes the lowest free place, if its reply has room. Assumes nothing.
-use native.Mathlib.Omega.{arith}
 use borrow.Author.Needs.{needs}
 use Rattle.steps.proofs.Branches.{branches, start-unsent, start-sent}
 use Rattle.steps.proofs.Storing.{long}
@@ -18,14 +17,8 @@ same-length c = search (long, needs)
 returns : tie.Need-returns
 returns c e cmp u = search (branches, needs)
 
-bytes4-requires : tie.Need-bytes4-requires
-bytes4-requires c κs = search (long, needs)
-
-rsp-requires : tie.Need-rsp-requires
-rsp-requires c κs = search (long, needs)
-
-write-requires : tie.Need-write-requires
-write-requires c κs = search (long, needs)
+write-rsp-requires : tie.Need-write-rsp-requires
+write-rsp-requires c κs = search (long, needs)
 
 enum-known-w : tie.Need-enum-known-w
 enum-known-w c = search (long, needs)
@@ -49,7 +42,7 @@ same-length-3 : tie.Need-same-length-3
 same-length-3 c = search (long, needs)
 
 returns-2 : tie.Need-returns-2
-returns-2 c e cmp u = start-unsent _ _ _ (c .before .before .before .before .before .before .before .before .before .before .before .free-place .ensures .0) e u _ (record { start = c .before .before .before .before .before .before .before .before .before .before .before .before .before .before .before .before .args .start; rsp = c .before .before .before .before .before .before .before .before .before .before .before .before .before .before .before .before .args .answer; cmp = cmp }) _ _ (c .before .before .before .before .before .before .before .before .before .before .before .before .before .before .before .before .fits .id) (c .before .before .before .before .before .before .before .before .before .before .if1 .left) _ (c .before .before .before .before .before .before .before .before .before .bytes4 .ensures) _ (c .before .before .before .before .before .before .before .before .rsp .ensures) _ _ (c .before .before .before .before .before .before .write .ensures) _ (search needs) (c .refused2 .ensures)
+returns-2 c e cmp u = start-unsent _ _ _ (c .before .before .before .before .before .before .before .before .before .free-place .ensures .0) e u _ (record { start = c .before .before .before .before .before .before .before .before .before .before .before .before .before .before .args .start; rsp = c .before .before .before .before .before .before .before .before .before .before .before .before .before .before .args .answer; cmp = cmp }) _ _ (c .before .before .before .before .before .before .before .before .before .before .before .before .before .before .fits .id) (c .before .before .before .before .before .before .before .before .if1 .left) _ _ (c .before .before .before .before .before .before .write-rsp .ensures) _ (search needs) (c .refused2 .ensures)
 
 same-length-4 : tie.Need-same-length-4
 same-length-4 c = search (long, needs)
@@ -58,27 +51,7 @@ same-length-5 : tie.Need-same-length-5
 same-length-5 c = search (long, needs)
 
 returns-3 : tie.Need-returns-3
-returns-3 c e cmp u = start-sent _ _ _ (c .before .before .before .before .before .before .before .before .before .before .before .before .before .before .before .free-place .ensures .0) e u _ (record { start = c .before .before .before .before .before .before .before .before .before .before .before .before .before .before .before .before .before .before .before .before .args .start; rsp = c .before .before .before .before .before .before .before .before .before .before .before .before .before .before .before .before .before .before .before .before .args .answer; cmp = cmp }) _ _ (c .before .before .before .before .before .before .before .before .before .before .before .before .before .before .before .before .before .before .before .before .fits .id) (c .before .before .before .before .before .before .before .before .before .before .before .before .before .before .if1 .left) _ (c .before .before .before .before .before .before .before .before .before .before .before .before .before .bytes4 .ensures) _ (c .before .before .before .before .before .before .before .before .before .before .before .before .rsp .ensures) _ _ (c .before .before .before .before .before .before .before .before .before .before .write .ensures) _ (search needs) _ (c .before .before .before .take-station .ensures) (c .done .ensures)
+returns-3 c e cmp u = start-sent _ _ _ (c .before .before .before .before .before .before .before .before .before .before .before .before .before .free-place .ensures .0) e u _ (record { start = c .before .before .before .before .before .before .before .before .before .before .before .before .before .before .before .before .before .before .args .start; rsp = c .before .before .before .before .before .before .before .before .before .before .before .before .before .before .before .before .before .before .args .answer; cmp = cmp }) _ _ (c .before .before .before .before .before .before .before .before .before .before .before .before .before .before .before .before .before .before .fits .id) (c .before .before .before .before .before .before .before .before .before .before .before .before .if1 .left) _ _ (c .before .before .before .before .before .before .before .before .before .before .write-rsp .ensures) _ (search needs) _ (c .before .before .before .take-station .ensures) (c .done .ensures)
 
 pub start-at-spec : {M : Type 1} → statement M
-start-at-spec =
-    tie.close
-    (tie.spec
-    free-place-requires
-    refused-requires
-    same-length
-    returns
-    bytes4-requires
-    rsp-requires
-    write-requires
-    enum-known-w
-    refused-requires-2
-    enum-known-w-2
-    take-station-requires
-    done-requires
-    same-length-2
-    same-length-3
-    returns-2
-    same-length-4
-    same-length-5
-    returns-3)
+start-at-spec = tie.close (tie.spec free-place-requires refused-requires same-length returns write-rsp-requires enum-known-w refused-requires-2 enum-known-w-2 take-station-requires done-requires same-length-2 same-length-3 returns-2 same-length-4 same-length-5 returns-3)
