@@ -1,14 +1,10 @@
 -- What each branch of the code leaves is what the rule says of the session in the bytes: the place that was found is the rule's, the ID that was handed
 -- on is kept by the machine, and what was written and stored is the rule's reply and session. Assumes nothing.
-use mathlib.Core.Path.{_≡_, refl, sym, ap, ap₂, subst, _∙_}
-use mathlib.Core.Bool.{Bool, true, false, not}
+use mathlib.Core.Path.{_≡_, ap, subst}
 use mathlib.Core.List.{List}
 use mathlib.Core.Option.{some, none}
-use Prim.Native.Nat.{ℕ, _+_, _≤_, _<_}
-use native.Mathlib.Omega.{arith}
+use Prim.Native.Nat.{ℕ}
 use lib.IntN.{ℤ}
-use lib.ListN.{length}
-use lib.Signed.{leZ}
 use mir.Syntax.{w64}
 use mir.Val.{SFits, toZ, ofZ}
 use mir.ValLaws.{toZ-ofZ}
@@ -17,12 +13,12 @@ use Rattle.message.specs.declared.Message.{Message}
 use Rattle.saying.specs.Fits.{fits}
 use Rattle.writing.specs.declared.Written.{Written}
 use Rattle.writing.specs.declared.Written.the-variants.{Whole, Refused}
-use Rattle.writing.specs.Write.{writtenOf, roomOf}
+use Rattle.writing.specs.Write.{writtenOf, roomOf, IsWritten, EachBare}
 use Rattle.session.specs.Session.{Session, Host}
 use Rattle.session.specs.Place.{isFree, matches, freePlace, placeOf, placeNumber, taken, freed}
 use Rattle.session.specs.Kinds.{Operation}
 use Rattle.session.specs.Happened.{isStarted, isCompleted, isAnswered, isIssued}
-use Rattle.session.specs.Arrive.{Outcome, highestOf, bareOf, rspOf, withStation, withCentre, starts, startAt, completeAt, respondAt}
+use Rattle.session.specs.Arrive.{Outcome, bareOf, rspOf, withStation, withCentre, startAt, completeAt, respondAt}
 use Rattle.session.specs.Centre.{beginAt}
 use Rattle.session.specs.Image.{sessionImage, entriesAt, sessionAt}
 use Rattle.session.proofs.Image.{entries-long}
@@ -86,9 +82,8 @@ module _ (d room : List ℕ) (i : ℕ) (o : Operation) (z : ℤ) (g : SFits w64 
   pub respond-none : i ≡ 16 → r ≡ refusedAs 17 → _≡_ {A = Called} (called r d room) (calledBy d room (respondAt (sessionAt d) o z (placeOf z (o .start) (sessionAt d .centre))))
   respond-none h q = refused-call d room _ r 17 q (ap (respondAt (sessionAt d) o z) (centre-none d i z g (o .start) e h))
 
-  module _ (h : i ≡ 16 → ⊥) (k : IsBare (o .cmp)) (x : Written) (after : List ℕ)
-      (w : (m : Message) → true ≡ fits m → m .command ≡ o .cmp → m .«op_id» ≡ toZ w64 (ofZ w64 z) → (x ≡ writtenOf m room) × (after ≡ roomOf m room)) where
-    sent : (x ≡ writtenOf (bareOf (o .cmp) z) room) × (after ≡ roomOf (bareOf (o .cmp) z) room)
+  module _ (h : i ≡ 16 → ⊥) (k : IsBare (o .cmp)) (x : Written) (after : List ℕ) (w : EachBare (o .cmp) (toZ w64 (ofZ w64 z)) (IsWritten room x after)) where
+    sent : IsWritten room x after (bareOf (o .cmp) z)
     sent = bare-sent room after x z g (o .cmp) k w
 
     abbrev ended : Session
@@ -113,9 +108,9 @@ module _ (d room : List ℕ) (i : ℕ) (e : (kinds : ℕ) → i ≡ placeNumber 
   start-full p q = refused-call d room _ r 19 q (ap (startAt (sessionAt d) h o z) (station-full d i e p))
 
   module _ (g : SFits w64 z) (p : i ≡ 16 → ⊥) (x : Written) (after : List ℕ)
-      (w : (e : ℕ) (u : List ℕ) → (x ≡ writtenOf (rspOf (hostOf e u sign) (o .rsp) (toZ w64 (ofZ w64 z))) room) × (after ≡ roomOf (rspOf (hostOf e u sign) (o .rsp) (toZ w64 (ofZ w64 z))) room)) where
-    answered : (x ≡ writtenOf (rspOf h (o .rsp) z) room) × (after ≡ roomOf (rspOf h (o .rsp) z) room)
-    answered = subst (λ (y : ℤ). (x ≡ writtenOf (rspOf h (o .rsp) y) room) × (after ≡ roomOf (rspOf h (o .rsp) y) room)) (toZ-ofZ w64 z g) (w eui uuid)
+      (w : (e : ℕ) (u : List ℕ) → IsWritten room x after (rspOf (hostOf e u sign) (o .rsp) (toZ w64 (ofZ w64 z)))) where
+    answered : IsWritten room x after (rspOf (hostOf eui uuid sign) (o .rsp) z)
+    answered = subst (λ (y : ℤ). IsWritten room x after (rspOf h (o .rsp) y)) (toZ-ofZ w64 z g) (w eui uuid)
 
     abbrev started : Session
     started = withStation (sessionAt d) z (taken (sessionAt d .station) i z (o .start))

@@ -11,7 +11,6 @@ use lib.ListN.{length, getD, drop, drop-of-length-le}
 use lib.Seq.{drop-cons}
 use borrow.Author.Tests.{eq-eqb, ne-eqb}
 use Rattle.octets.specs.Bytes.{IsBytes}
-use Rattle.session.specs.Session.{Entry}
 use Rattle.session.specs.Place.{entry, noEntry}
 use Rattle.session.specs.Image.{idAt, entriesAt, areZeros, isSession}
 use Rattle.session.proofs.Image.{tested}

@@ -1,23 +1,22 @@
 -- While waiting and connecting: what each branch of the code leaves is what the rule says of the session in the bytes. Assumes nothing.
 use mathlib.Core.Path.{_≡_, refl, ap₂, subst, _∙_}
-use mathlib.Core.Bool.{Bool, true, false, _&&_, not}
+use mathlib.Core.Bool.{true, false, _&&_}
 use mathlib.Core.List.{List}
 use Prim.Native.Nat.{ℕ, _<_}
 use native.Mathlib.Omega.{arith}
 use lib.Dec.{eqb}
-use lib.IntN.{ℤ, pos}
-use lib.ListN.{length, set, take, drop, length-drop}
-use lib.Seq.{take-all, length-take-le}
+use lib.IntN.{ℤ}
+use lib.ListN.{length, set, take, drop}
+use lib.Seq.{take-all}
 use lib.Signed.{mag}
 use mir.Syntax.{w64}
 use mir.Val.{SFits, ofZ}
 use Rattle.octets.specs.Bytes.{IsBytes}
 use Rattle.message.specs.declared.Message.{Message}
-use Rattle.saying.specs.Fits.{fits}
 use Rattle.writing.specs.declared.Written.{Written}
 use Rattle.writing.specs.declared.Written.the-variants.{Whole, Refused}
-use Rattle.writing.specs.Write.{writtenOf, roomOf}
-use Rattle.session.specs.Session.{Session, Host}
+use Rattle.writing.specs.Write.{IsWritten, EachConRsp}
+use Rattle.session.specs.Session.{Host}
 use Rattle.session.specs.Happened.{isBegun, isResumed, isOpened}
 use Rattle.session.specs.Arrive.{Outcome, conRspOf, resumed, begun, begunWith, opened, inConnecting}
 use Rattle.session.specs.Image.{sessionImage, sessionAt}
@@ -27,7 +26,7 @@ use Rattle.steps.specs.Called.{Called, called, refusedAs, doneAs, called
 use Rattle.steps.proofs.Calls.{refused-call, silent-call, sent-call, unsent-call}
 use Rattle.steps.proofs.Storing.{long, now-connecting, now-open}
 use Rattle.steps.proofs.Connecting.{completes-con, completes-not}
-use Rattle.steps.proofs.Replies.{Sends, part-octets, con-rsp-sent}
+use Rattle.steps.proofs.Replies.{con-rsp-sent}
 
 -- conCmp
 module _ (d room : List ℕ) (l : Lies d) (m : Message) (k : ℕ) (z : ℤ) (g : SFits w64 z) (e : m .command ≡ k) (f : m .«op_id» ≡ z) (r : Answer) where
@@ -45,48 +44,42 @@ module _ (d room : List ℕ) (l : Lies d) (m : Message) (k : ℕ) (z : ℤ) (g :
 
 -- con that resumes: the reply has the session's own UUID
 module _ (d room : List ℕ) (l : Lies d) (eui : ℕ) (k : eui < 0x10000000000000000) (u g own : List ℕ) (t : own ≡ take 16 (drop 328 d)) (x : Written) (after : List ℕ)
-    (w : (m : Message) → true ≡ fits m → m .command ≡ 1 → m .«op_id» ≡ pos 0 → m .version ≡ record { here = true; major = 1; minor = 0; patch = 0 } → m .«sc_eui» ≡ eui
-    → m .«sn_resume» ≡ true → m .«sn_sc_uuid» ≡ own → (x ≡ writtenOf m room) × (after ≡ roomOf m room)) (r : Answer) where
-  abbrev reply : Message
-  reply = conRspOf (hostOf eui u g) true (sessionAt d .snScUuid)
+    (w : EachConRsp eui true own (IsWritten room x after)) (r : Answer) where
+  abbrev goesOn : Message
+  goesOn = conRspOf (hostOf eui u g) true (sessionAt d .snScUuid)
 
-  own-long : length own ≡ 16
-  own-long = rw t (length-take-le 16 (drop 328 d) (omega (arith, length-drop 328 d, long d l)))
-
-  resumed-sent : (x ≡ writtenOf (conRspOf (hostOf eui u g) true (sessionAt d .snScUuid)) room) × (after ≡ roomOf (conRspOf (hostOf eui u g) true (sessionAt d .snScUuid)) room)
+  resumed-sent : IsWritten room x after (conRspOf (hostOf eui u g) true (sessionAt d .snScUuid))
   unfolding sessionAt
-  resumed-sent = subst (λ (v : List ℕ). Sends room after x (conRspOf (hostOf eui u g) true v)) t (con-rsp-sent room after x (hostOf eui u g) true own k own-long (rw t (part-octets 16 328 d (l .bytes))) w)
+  resumed-sent = con-rsp-sent room after x (hostOf eui u g) true d 328 own k (l .bytes) (omega (arith, long d l)) t w
 
   abbrev outcome : Outcome
-  outcome = Outcome.replies isResumed (resumed (sessionAt d)) reply
+  outcome = Outcome.replies isResumed (resumed (sessionAt d)) goesOn
 
-  pub resume-unsent : (k : ℕ) → x ≡ Refused k → r ≡ refusedAs k → _≡_ {A = Called} (called r d after) (calledBy d room outcome)
-  resume-unsent k p q = unsent-call d room _ r isResumed (resumed (sessionAt d)) reply refl after x (resumed-sent .0) (resumed-sent .1) k p q
+  pub resume-unsent : (n : ℕ) → x ≡ Refused n → r ≡ refusedAs n → _≡_ {A = Called} (called r d after) (calledBy d room outcome)
+  resume-unsent n p q = unsent-call d room _ r isResumed (resumed (sessionAt d)) goesOn refl after x (resumed-sent .0) (resumed-sent .1) n p q
 
   pub resume-sent : (n : ℕ) → x ≡ Whole n → r ≡ doneAs 2 n → _≡_ {A = Called} (called r (set d 344 1) after) (calledBy d room outcome)
-  resume-sent n p q = sent-call d room _ r isResumed (resumed (sessionAt d)) reply refl after x (resumed-sent .0) (resumed-sent .1) n _ p q (now-connecting d l)
+  resume-sent n p q = sent-call d room _ r isResumed (resumed (sessionAt d)) goesOn refl after x (resumed-sent .0) (resumed-sent .1) n _ p q (now-connecting d l)
 
 -- con that begins anew: the reply has the host's UUID, and so has the session
-module _ (d room uuid g own : List ℕ) (b : IsBytes uuid) (long : length uuid ≡ 16) (eui : ℕ) (k : eui < 0x10000000000000000) (t : own ≡ take 16 (drop 0 uuid)) (con : Message) (x : Written) (after : List ℕ)
-    (w : (m : Message) → true ≡ fits m → m .command ≡ 1 → m .«op_id» ≡ pos 0 → m .version ≡ record { here = true; major = 1; minor = 0; patch = 0 } → m .«sc_eui» ≡ eui
-    → m .«sn_resume» ≡ false → m .«sn_sc_uuid» ≡ own → (x ≡ writtenOf m room) × (after ≡ roomOf m room)) (r : Answer) where
+module _ (d room uuid g own : List ℕ) (b : IsBytes uuid) (h : length uuid ≡ 16) (eui : ℕ) (k : eui < 0x10000000000000000) (t : own ≡ take 16 (drop 0 uuid)) (con : Message)
+    (x : Written) (after : List ℕ) (w : EachConRsp eui false own (IsWritten room x after)) (r : Answer) where
   abbrev host : Host
   host = hostOf eui uuid g
 
-  own-is : own ≡ uuid
-  own-is = t ∙ take-all 16 uuid (omega arith)
-
-  anew-written : (x ≡ writtenOf (conRspOf (hostOf eui uuid g) false uuid) room) × (after ≡ roomOf (conRspOf (hostOf eui uuid g) false uuid) room)
-  anew-written = subst (λ (v : List ℕ). Sends room after x (conRspOf host false v)) own-is (con-rsp-sent room after x host false own k (rw own-is long) (rw t (part-octets 16 0 uuid b)) w)
+  begun-sent : IsWritten room x after (conRspOf (hostOf eui uuid g) false uuid)
+  begun-sent =
+      subst (λ (v : List ℕ). IsWritten room x after (conRspOf host false v)) (take-all 16 uuid (omega arith))
+      (con-rsp-sent room after x host false uuid 0 own k b (omega arith) t w)
 
   abbrev anew : Outcome
   anew = Outcome.replies isBegun (begun host con) (conRspOf host false uuid)
 
-  pub anew-unsent : (k : ℕ) → x ≡ Refused k → r ≡ refusedAs k → _≡_ {A = Called} (called r d after) (calledBy d room anew)
-  anew-unsent k p q = unsent-call d room _ r isBegun (begun host con) (conRspOf host false uuid) refl after x (anew-written .0) (anew-written .1) k p q
+  pub anew-unsent : (n : ℕ) → x ≡ Refused n → r ≡ refusedAs n → _≡_ {A = Called} (called r d after) (calledBy d room anew)
+  anew-unsent n p q = unsent-call d room _ r isBegun (begun host con) (conRspOf host false uuid) refl after x (begun-sent .0) (begun-sent .1) n p q
 
   pub anew-sent : (n : ℕ) → x ≡ Whole n → (f : List ℕ) → f ≡ sessionImage (begunWith (con .«bs_eui») (con .«sn_bs_uuid») uuid) → r ≡ doneAs 1 n
       → _≡_ {A = Called} (called r f after) (calledBy d room anew)
-  anew-sent n p f q v = sent-call d room _ r isBegun (begun host con) (conRspOf host false uuid) refl after x (anew-written .0) (anew-written .1) n f p v q
+  anew-sent n p f q v = sent-call d room _ r isBegun (begun host con) (conRspOf host false uuid) refl after x (begun-sent .0) (begun-sent .1) n f p v q
 
 pub ruleset openings = (con-opened, con-not-opened, resume-unsent, resume-sent, anew-unsent, anew-sent)

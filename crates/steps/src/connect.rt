@@ -22,7 +22,7 @@ ghost use mathlib.Core.Bool.{true, false, not, _||_};
 ghost use mathlib.Core.List.{List};
 ghost use Prim.Native.Nat.{ℕ};
 ghost use lib.ListN.{length};
-ghost use Rattle.session.specs.Arrive.{Outcome, below, highestOf, lowestOf, resumes, connects, inWaiting, inConnecting, conRspOf, resumed, begun};
+ghost use Rattle.session.specs.Arrive.{Outcome, below, highestOf, lowestOf, resumes, inWaiting, inConnecting, conRspOf, resumed, begun};
 ghost use Rattle.session.specs.Happened.{isBegun, isResumed};
 ghost use Rattle.session.specs.Image.{sessionAt};
 ghost use Rattle.steps.specs.Lies.{Lies};

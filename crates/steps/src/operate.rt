@@ -18,9 +18,8 @@ ghost use mathlib.Core.Path.{_≡_};
 ghost use mathlib.Core.List.{List};
 ghost use Prim.Native.Nat.{ℕ};
 ghost use lib.ListN.{length};
-ghost use Rattle.writing.specs.Write.{writtenOf, roomOf};
+ghost use Rattle.writing.specs.Write.{IsWritten};
 ghost use Rattle.session.specs.Place.{freePlace, placeOf};
-ghost use Rattle.session.specs.Kinds.{Operation};
 ghost use Rattle.session.specs.Arrive.{rspOf, whenOpen, starts, startAt, completeAt, respondAt};
 ghost use Rattle.session.specs.Image.{sessionAt};
 ghost use Rattle.steps.specs.Lies.{Lies};
@@ -82,8 +81,7 @@ fn start_at(d: &mut [u8], start: u8, answer: u8, id: i64, sign: &[u8], room: &mu
 // detRsp carries the host's sign.
 fn write_rsp(answer: u8, id: i64, sign: &[u8], room: &mut [u8]) -> Written
     requires { ⌜ (length (now sign) ≡ 4) × IsRsp answer ⌝ }
-    ensures { λ r. ⌜ ((e : ℕ) (u : List ℕ) → (r ≡ writtenOf (rspOf (hostOf e u (now (sign .entry))) answer id) (now (room .entry)))
-        × (now (room .exit) ≡ roomOf (rspOf (hostOf e u (now (sign .entry))) answer id) (now (room .entry)))) ⌝ }
+    ensures { λ r. ⌜ ((e : ℕ) (u : List ℕ) → IsWritten (now (room .entry)) r (now (room .exit)) (rspOf (hostOf e u (now (sign .entry))) answer id)) ⌝ }
 {
     if answer == 4 {
         return writing::write_det_rsp(id, bytes4(sign), room);

@@ -7,7 +7,7 @@ use Prim.Native.Nat.{ℕ, zero, suc, _+_, _-_, _≤_, _<_}
 use native.Mathlib.Omega.{arith}
 use lib.Dec.{T, leb, ltb→lt}
 use lib.IntN.{pos}
-use lib.ListN.{length, take, drop, replicate, length-append, length-replicate}
+use lib.ListN.{length, take, drop, length-append}
 use lib.Seq.{length-take-le}
 use borrow.Author.Tests.{le-leb, lt-leb}
 use Rattle.octets.specs.Choice.{either}
@@ -190,10 +190,6 @@ accepted m r p q = go r q ∙ p
     go true e = refl
     go false e = true-false e
 
--- room for the head
-pub head-room : (k : ℕ) → 12 ≤ k → 12 ≤ length (replicate {A = ℕ} k 0)
-head-room k h = rw length-replicate h
-
 -- what `deliver` does
 head-length : (room : List ℕ) (n : ℕ) → length (withHead room n) ≡ length room
 unfolding withHead
@@ -224,18 +220,16 @@ module _ (m : Message) (f : true ≡ fits m) where
   pub command-small : m .command < 21
   command-small = ltb→lt (m .command) 21 (fits-command back-in m passed)
 
-  pub enough : (old : List ℕ) → 1012 ≤ length old → 12 + length (payloadFor m) ≤ length old
-  enough old l = omega (arith, payload-short m passed)
+  pub enough : 12 + length (payloadFor m) ≤ 1012
+  enough = omega (arith, payload-short m passed)
 
-  pub enough-made : 12 + length (payloadFor m) ≤ length (replicate {A = ℕ} 1012 0)
-  enough-made = rw length-replicate (omega (arith, payload-short m passed))
-
-  module _ (old room : List ℕ) (n : ℕ) (l : 12 + length (payloadFor m) ≤ length old) (e : put room n ≡ putParts (payloadBy (m .command) m) (put old 12)) where
+  -- in k bytes
+  module _ (old room : List ℕ) (n : ℕ) (e : put room n ≡ putParts (payloadBy (m .command) m) (put old 12)) (k : ℕ) (s : 12 + length (payloadFor m) ≤ k) (l : k ≤ length old) where
     size : n ≡ 12 + length (payloadFor m)
-    size = payload-end m old room n l e
+    size = payload-end m old room n (omega arith) e
 
     frame-put : (after : List ℕ) → after ≡ withHead room n → after ≡ putAt old 0 (frameFor m)
-    frame-put after g = framed old room after (payloadFor m) n l (payload-there m old room n l e) size g
+    frame-put after g = framed old room after (payloadFor m) n (omega arith) (payload-there m old room n (omega arith) e) size g
 
     -- in the room itself
     pub answer-whole : (after : List ℕ) → after ≡ withHead room n → (Whole n ≡ writtenOf m old) × (after ≡ roomOf m old)

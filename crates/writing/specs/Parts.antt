@@ -10,7 +10,7 @@ use Rattle.octets.specs.Choice.{either}
 use Rattle.octets.specs.Bytes.{bigBytes, littleBytes, putNumber}
 use Rattle.element.specs.Tree.{bytesOf, pairsOf}
 use Rattle.forms.specs.Shortest.{textTree}
-use Rattle.forms.specs.Put.{Put, putParts, mapParts, wholeParts, realParts, markParts, textParts, octetsParts, positionParts, versionParts}
+use Rattle.forms.specs.Put.{mapParts, wholeParts, realParts, markParts, textParts, octetsParts, positionParts, versionParts}
 use Rattle.names.specs.Names.{bytes, commands, nameAt}
 use Rattle.field.specs.Kind.{Kind, Value, kindOf}
 use Rattle.message.specs.Fields.{Field, received, fieldsOf}

@@ -15,14 +15,11 @@ use payload::con_rsp_payload;
 use payload::det_rsp_payload;
 use payload::put_payload;
 ghost use mathlib.Core.Path.{_≡_};
-ghost use mathlib.Core.Bool.{true};
 ghost use Prim.Native.Nat.{_≤_, _<_};
-ghost use lib.IntN.{pos};
 ghost use lib.ListN.{length, take};
 ghost use Rattle.octets.specs.Bytes.{putAt};
-ghost use Rattle.saying.specs.Fits.{fits};
 ghost use Rattle.writing.specs.Parts.{withHead, delivered};
-ghost use Rattle.writing.specs.Write.{writtenOf, roomOf};
+ghost use Rattle.writing.specs.Write.{writtenOf, roomOf, IsWritten, EachBare, EachDetRsp, EachConRsp};
 
 // A frame and its length, or document 01's refusal 15 or 20.
 pub enum Written {
@@ -48,11 +45,10 @@ pub fn write(m: Message, room: &mut [u8]) -> Written
     Written::Whole(end)
 }
 
-// What a session sends of its own, from the fields alone, so that no record is made for it. Whoever calls knows that the record fits.
+// What a session sends of its own, from the fields alone: no record is made, and none is judged.
 pub fn write_bare(command: u8, id: i64, room: &mut [u8]) -> Written
     requires { ⌜ (7 < command) × (command < 21) ⌝ }
-    ensures { λ r. ⌜ ((m : Message) → true ≡ fits m → m .command ≡ command → m .«op_id» ≡ id
-        → (r ≡ writtenOf m (now (room .entry))) × (now (room .exit) ≡ roomOf m (now (room .entry)))) ⌝ }
+    ensures { λ r. ⌜ EachBare command id (IsWritten (now (room .entry)) r (now (room .exit))) ⌝ }
 {
     let mut made = [0u8; 144];
     let end = bare_payload(&mut made, 12, command, id);
@@ -60,8 +56,7 @@ pub fn write_bare(command: u8, id: i64, room: &mut [u8]) -> Written
 }
 
 pub fn write_det_rsp(id: i64, sign: [u8; 4], room: &mut [u8]) -> Written
-    ensures { λ r. ⌜ ((m : Message) → true ≡ fits m → m .command ≡ 4 → m .«op_id» ≡ id → m .sign ≡ sign
-        → (r ≡ writtenOf m (now (room .entry))) × (now (room .exit) ≡ roomOf m (now (room .entry)))) ⌝ }
+    ensures { λ r. ⌜ EachDetRsp id sign (IsWritten (now (room .entry)) r (now (room .exit))) ⌝ }
 {
     let mut made = [0u8; 144];
     let end = det_rsp_payload(&mut made, 12, id, sign);
@@ -70,9 +65,7 @@ pub fn write_det_rsp(id: i64, sign: [u8; 4], room: &mut [u8]) -> Written
 
 // Of version 1.0.0, under ID 0.
 pub fn write_con_rsp(sc_eui: u64, resumed: bool, uuid: [u8; 16], room: &mut [u8]) -> Written
-    ensures { λ r. ⌜ ((m : Message) → true ≡ fits m → m .command ≡ 1 → m .«op_id» ≡ pos 0 → m .version ≡ record { here = true; major = 1; minor = 0; patch = 0 }
-        → m .«sc_eui» ≡ «sc_eui» → m .«sn_resume» ≡ resumed → m .«sn_sc_uuid» ≡ uuid
-        → (r ≡ writtenOf m (now (room .entry))) × (now (room .exit) ≡ roomOf m (now (room .entry)))) ⌝ }
+    ensures { λ r. ⌜ EachConRsp «sc_eui» resumed uuid (IsWritten (now (room .entry)) r (now (room .exit))) ⌝ }
 {
     let mut made = [0u8; 144];
     let version = MaybeVersion {

@@ -1,9 +1,9 @@
 -- What is made of the fields is delivered. Assumes nothing.
 use native.Mathlib.Omega.{arith}
 use lib.IntN.{pos}
+use lib.ListN.{length-replicate}
 use borrow.Author.Needs.{needs}
 use Rattle.forms.proofs.Putting.{next-within}
-use Rattle.writing.proofs.Framing.{head-room}
 use Rattle.writing.proofs.Answers.{con-rsp-answer}
 use Rattle.writing.proofs.write_con_rsp.Statement.{statement}
 use Rattle.writing.proofs.write_con_rsp.Tie as tie
@@ -18,7 +18,7 @@ slice-aggregate-deliver : tie.Need-slice-aggregate-deliver
 slice-aggregate-deliver c = search needs
 
 deliver-requires : tie.Need-deliver-requires
-deliver-requires c κs = next-within _ _ _ _ _ (c .before .before .before .con-rsp-payload .ensures) (head-room 144 (omega arith))
+deliver-requires c κs = next-within _ _ _ _ _ (c .before .before .before .con-rsp-payload .ensures) (rw length-replicate (omega arith))
 
 same-length : tie.Need-same-length
 same-length c = search needs
