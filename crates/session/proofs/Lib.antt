@@ -7,3 +7,6 @@ pub mod Counting
 pub mod Image
 pub mod Stored
 pub mod Back
+pub mod Cases
+pub mod Judged
+pub mod Holding

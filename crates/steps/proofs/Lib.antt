@@ -16,3 +16,4 @@ pub mod Commands
 pub mod Calling
 pub mod Replying
 pub mod Settled
+pub mod Seen
