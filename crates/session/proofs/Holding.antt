@@ -24,10 +24,10 @@ use Rattle.session.specs.Session.{State, Entry, Session, Host}
 use Rattle.session.specs.Session.State.{Waiting, Connecting, Open}
 use Rattle.session.specs.Place.{sameId, freePlace, placeOf, noEntry, entry}
 use Rattle.session.specs.Kinds.{Operation, stationStarts, centreStarts, operationBy}
-use Rattle.session.specs.Arrive.{Outcome, below, highestOf, lowestOf, resumes, moved, begunWith, withStation, withCentre, starts, startAt, completeAt, respondAt, inWaiting, inConnecting, whenOpen, inState, arrives}
+use Rattle.session.specs.Arrive.{Outcome, below, highestOf, lowestOf, resumes, moved, begunWith, withStation, withCentre, startAt, completeAt, respondAt, inWaiting, inConnecting, whenOpen, inState, arrives}
 use Rattle.session.specs.Centre.{oneBelow, lastId, underId, beginAt, kindBegins, ifOpen, centreBegins, lostIn, lost}
 use Rattle.session.specs.Image.{wordAt, entriesAt, sessionAt}
-use Rattle.session.proofs.Image.{Sized, sized}
+use Rattle.session.proofs.Image.{sized}
 use Rattle.session.proofs.Back.{AllFit, Held}
 use Rattle.session.proofs.Cases.{by-test, by-result, by-choice}
 use Rattle.session.proofs.Judged.{id-fits, eui-fits, uuid-fits}

@@ -1,19 +1,17 @@
 -- What the judgement of a record says of what a session takes from it: its ID has 64 bits, a con's bsEui too, and a con's snBsUuid has 16 bytes.
 -- Each is mandatory in the command's list, so the range of its kind holds. Assumes nothing.
-use mathlib.Core.Path.{_≡_, refl, sym, subst}
+use mathlib.Core.Path.{_≡_, refl, subst}
 use mathlib.Core.Bool.{not, _&&_, _||_}
 use mathlib.Core.List.{List, [], _∷_}
-use Prim.Native.Nat.{ℕ, zero, suc, _≤_, _^_, _<_}
+use Prim.Native.Nat.{ℕ, zero, suc, _^_, _<_}
 use native.Mathlib.Omega.{arith}
 use lib.Dec.{T, leb, ltb, leb→le}
 use lib.IntN.{ℤ, pos, negsuc}
 use lib.ListN.{length, drop}
 use lib.Pow.{areBytes}
-use lib.Signed.{mag}
 use mir.Syntax.{w64}
 use mir.Val.{SFits}
 use Rattle.octets.proofs.Ranges.{both-left, both-right}
-use Rattle.names.specs.Names.{bytes}
 use Rattle.field.specs.Judge.{inRange}
 use Rattle.field.specs.Kind.{kinds, kindIn}
 use Rattle.message.specs.Fields.{Field, need, signed64, headed, lists, listIn, fieldsOf}

@@ -1,5 +1,5 @@
--- The code's test of a session's bytes is the definition's: the spare bytes are zeros exactly if the three numbers that they write are. And the entry
--- at a place of the bytes is that of the list. Assumes nothing.
+-- The code's test of a session's bytes is the definition's: the spare bytes are zeros exactly if the three numbers that they write are. And the state
+-- in the bytes is the session's, the entry at a place of them that of the list. Assumes nothing.
 use mathlib.Core.Path.{_≡_, refl, sym, ap, ap₂, _∙_}
 use mathlib.Core.Bool.{Bool, true, false, not, _&&_}
 use mathlib.Core.List.{List, [], _∷_, _++_}
@@ -10,15 +10,14 @@ use lib.Dec.{eqb, ltb}
 use lib.ListN.{length, getD, take, drop, drop-of-length-le, take-append-drop}
 use lib.Seq.{drop-cons, drop-drop}
 use borrow.Author.Tests.{eq-eqb, ne-eqb, eqb-true, eqb-false}
-use Rattle.octets.specs.Choice.{either}
 use Rattle.octets.specs.Number.{littleAt, ifThere}
 use Rattle.octets.specs.Bytes.{IsBytes}
 use Rattle.octets.proofs.Reading.{if-there}
-use Rattle.session.specs.Session.{Entry}
 use Rattle.session.specs.Place.{entry, noEntry}
-use Rattle.session.specs.Image.{idAt, entriesAt, areZeros, isSession}
+use Rattle.session.specs.Image.{stateOf, idAt, entriesAt, sessionAt, areZeros, isSession}
 use Rattle.session.proofs.Image.{tested}
 use Rattle.steps.specs.Lies.{Lies}
+use Rattle.steps.proofs.Tests.{set-is, and-assoc}
 
 sum-zero : (a b : ℕ) → eqb (a * 256 + b) 0 ≡ eqb b 0 && eqb a 0
 sum-zero a b = go (eqb b 0) (eqb a 0) refl refl
@@ -35,10 +34,6 @@ number-zeros d at (suc n) h =
     sum-zero (littleAt d (at + 1) n) (getD d at 0)
     ∙ ap (λ (b : Bool). eqb (getD d at 0) 0 && b) (number-zeros d (at + 1) n (omega arith) ∙ ap (λ (k : ℕ). areZeros (take n (drop k d))) (add-one at))
     ∙ sym (ap (λ (l : List ℕ). areZeros (take (suc n) l)) (drop-cons d at 0 (omega arith)))
-
-and-assoc : (a b c : Bool) → (a && b) && c ≡ a && (b && c)
-and-assoc true b c = refl
-and-assoc false b c = refl
 
 zeros-join : (a b : List ℕ) → areZeros (a ++ b) ≡ areZeros a && areZeros b
 unfolding areZeros
@@ -89,14 +84,16 @@ session-short d h = sym (simp (ne-eqb (length d) 368 h))
 
 -- what the test told
 pub lies : (d : List ℕ) (b : Bool) → b ≡ isSession d → not b ≡ false → IsBytes d → Lies d
-lies d true e h bytes = record { is = sym e; bytes = bytes }
-lies d false e h bytes = let z : _≡_ {A = ℕ} 0 1 = cc in absurd (omega arith)
+lies d b e h bytes = record { is = sym e ∙ set-is b h; bytes = bytes }
 
 pub told-long : (d : List ℕ) (b : Bool) → b ≡ isSession d → not b ≡ false → length d ≡ 368
-told-long d true e h = tested d (sym e) .long
-told-long d false e h = let z : _≡_ {A = ℕ} 0 1 = cc in absurd (omega arith)
+told-long d b e h = tested d (sym e ∙ set-is b h) .long
 
--- the entry at a place
+-- the state, and the entry at a place
+pub state-is : (d : List ℕ) (x : ℕ) → getD d 344 0 ≡ x → sessionAt d .state ≡ stateOf x
+unfolding sessionAt
+state-is d x e = ap stateOf e
+
 pub entry-at : (d : List ℕ) (ids kinds n i : ℕ) → i < n → getD (entriesAt d ids kinds n) i noEntry ≡ entry (idAt d (ids + 8 * i)) (getD d (kinds + i) 0)
 unfolding entriesAt
 entry-at d ids kinds zero i h = absurd (omega arith)

@@ -1,7 +1,7 @@
 -- What the code does in an open session is what the definitions say, branch by branch. Assumes nothing.
-use mathlib.Core.Path.{_≡_, refl, sym, ap, _∙_}
-use mathlib.Core.Bool.{Bool, true, false, not}
-use mathlib.Core.Option.{some, none}
+use mathlib.Core.Path.{_≡_, sym, ap, _∙_}
+use mathlib.Core.Bool.{true, false}
+use mathlib.Core.Option.{some}
 use Prim.Native.Nat.{ℕ, _<_}
 use lib.IntN.{ℤ}
 use lib.Signed.{mag, leZ}
@@ -17,24 +17,17 @@ use Rattle.session.specs.Place.{freePlace, taken}
 use Rattle.session.specs.Kinds.{Operation, stationStarts, centreStarts, operationBy}
 use Rattle.session.specs.Happened.{isIssued}
 use Rattle.session.specs.Arrive.{Outcome, below, highestOf, withCentre, starts, startAt, whenOpen}
-use Rattle.session.specs.Centre.{beginAt, begins, kindBegins}
+use Rattle.session.specs.Centre.{beginAt, kindBegins}
+use Rattle.steps.proofs.Tests.{unset, set-is}
 use Rattle.steps.proofs.Knowing.{le-kept}
-
-not-false : (b : Bool) → true ≡ not b → b ≡ false
-not-false true e = e
-not-false false e = refl
-
-not-true : (b : Bool) → false ≡ not b → b ≡ true
-not-true true e = refl
-not-true false e = e
 
 -- a station's start: late, or with a place or none
 module _ (s : Session) (h : Host) (o : Operation) (z x : ℤ) (f : mag z < 0x8000000000000000) (g : mag (highestOf s) < 0x8000000000000000) (e : x ≡ highestOf s) where
   pub start-late : leZ (toZ w64 (ofZ w64 z)) (toZ w64 (ofZ w64 x)) ≡ true → starts s h o z ≡ Outcome.refused 18
-  start-late t = simp (not-false (below (highestOf s) z) (sym t ∙ le-kept z x (highestOf s) f g e))
+  start-late t = simp (unset (below (highestOf s) z) (sym (le-kept z x (highestOf s) f g e) ∙ t))
 
   pub start-timely : leZ (toZ w64 (ofZ w64 z)) (toZ w64 (ofZ w64 x)) ≡ false → starts s h o z ≡ startAt s h o z (freePlace (s .station))
-  start-timely t = simp (not-true (below (highestOf s) z) (sym t ∙ le-kept z x (highestOf s) f g e))
+  start-timely t = simp (set-is (below (highestOf s) z) (sym (le-kept z x (highestOf s) f g e) ∙ t))
 
 -- what a command does in an open session, found by the command's number
 module _ (s : Session) (h : Host) (z : ℤ) (c : ℕ) where
