@@ -25,21 +25,23 @@ use Rattle.session.proofs.Holding.{Holds, held-in, arrival-held, begin-held, lo
 use Rattle.steps.specs.declared.Answer.{Answer}
 use Rattle.steps.specs.Called.{Called, refusedAs, doneAs, refuses, sends, calledBy, hostOf, arriveOn, beginOn, lostAnswer, lostSession}
 
--- the session t that the rule reached; or where the call was refused, by the rule or with 20, the session s before it
+-- after a call: the session t that the rule made of s; where the call was refused, by the rule or with 20, s itself
 abbrev pub unlessRefused : Answer → Session → Session → Session
 unlessRefused r s t = either (eqb (r .refusal) 0) (λ _. t) (λ _. s)
 
--- the session after an event that was answered so
 abbrev pub sessionAfter : Session → Event → Answer → Session
 sessionAfter s e r = unlessRefused r s (after s e)
 
--- the bytes before an event, and those after it
+-- the bytes after an event that was answered with r are a session's if those before it were, and their session is the step of the one before
 abbrev pub Seen : List ℕ → Event → Answer → List ℕ → Type 0
 Seen before e r now = (isSession now ≡ isSession before) × (sessionAt now ≡ sessionAfter (sessionAt before) e r)
 
--- the same of an outcome of the rule
-abbrev SeenAs : List ℕ → Outcome → Called → Type 0
-SeenAs d o c = (isSession (c .session) ≡ isSession d) × (sessionAt (c .session) ≡ unlessRefused (c .answer) (sessionAt d) (reached (sessionAt d) o))
+-- the same with the session that the rule made, and with an outcome of the rule
+abbrev Shows : List ℕ → Session → Answer → List ℕ → Type 0
+Shows before t r now = (isSession now ≡ isSession before) × (sessionAt now ≡ unlessRefused r (sessionAt before) t)
+
+abbrev ShowsOf : List ℕ → Outcome → Called → Type 0
+ShowsOf d o c = Shows d (reached (sessionAt d) o) (c .answer) (c .session)
 
 same-session : (b : Bool) (s : Session) → s ≡ either b (λ _. s) (λ _. s)
 same-session true s = refl
@@ -55,12 +57,12 @@ module _ (d : List ℕ) (bytes : IsBytes d) where
   module _ (room : List ℕ) where
     -- a step whose message is written, or has no room
     sent-seen : (w : ℕ) (t : Session) (m : Message) → isSession d ≡ true → Held t → (a b : Bool)
-        → SeenAs d (Outcome.replies w t m) (sends w d t m room (either a (λ _. either b (λ _. Whole (length (frameFor m))) (λ _. Refused 20)) (λ _. Refused 15)))
+        → ShowsOf d (Outcome.replies w t m) (sends w d t m room (either a (λ _. either b (λ _. Whole (length (frameFor m))) (λ _. Refused 20)) (λ _. Refused 15)))
     sent-seen w t m e h true true = image-seen e t h
     sent-seen w t m e h true false = (refl, refl)
     sent-seen w t m e h false b = (refl, refl)
 
-    outcome-seen : (o : Outcome) → isSession d ≡ true → Holds o → SeenAs d o (calledBy d room o)
+    outcome-seen : (o : Outcome) → isSession d ≡ true → Holds o → ShowsOf d o (calledBy d room o)
     unfolding writtenOf
     outcome-seen (Outcome.refused n) e h = (refl, same-session (eqb n 0) (sessionAt d))
     outcome-seen (Outcome.silent w t) e h = image-seen e t h
@@ -75,7 +77,7 @@ module _ (d : List ℕ) (bytes : IsBytes d) where
           rule = arrives (sessionAt d) m (hostOf e u g)
 
           go : (a : Bool) → isSession d ≡ a → (b : Bool) → eqb (length u) 16 ≡ b → (c : Bool)
-              → SeenAs d rule (either a (λ _. calledBy d room (either (b && c) (λ _. rule) (λ _. Outcome.refused 15))) (λ _. refuses 15 d room))
+              → ShowsOf d rule (either a (λ _. calledBy d room (either (b && c) (λ _. rule) (λ _. Outcome.refused 15))) (λ _. refuses 15 d room))
           go true p true q true = outcome-seen rule p (arrival-held (sessionAt d) (held p) m (hostOf e u g) (eqb-true (length u) 16 q))
           go true p true q false = (refl, refl)
           go true p false q c = (refl, refl)
@@ -88,14 +90,14 @@ module _ (d : List ℕ) (bytes : IsBytes d) where
           rule : Outcome
           rule = centreBegins (sessionAt d) m
 
-          go : (a : Bool) → isSession d ≡ a → SeenAs d rule (either a (λ _. calledBy d room rule) (λ _. refuses 15 d room))
+          go : (a : Bool) → isSession d ≡ a → ShowsOf d rule (either a (λ _. calledBy d room rule) (λ _. refuses 15 d room))
           go true p = outcome-seen rule p (begin-held (sessionAt d) (held p) m)
           go false p = (refl, refl)
 
   pub loss-seen : Seen d Event.loss (lostAnswer d) (lostSession d)
   loss-seen = go (isSession d) refl
     where
-      go : (a : Bool) → isSession d ≡ a → (isSession (either a (λ _. sessionImage (lost (sessionAt d))) (λ _. d)) ≡ isSession d)
-          × (sessionAt (either a (λ _. sessionImage (lost (sessionAt d))) (λ _. d)) ≡ sessionAfter (sessionAt d) Event.loss (either a (λ _. doneAs (lossOf (sessionAt d .state)) 0) (λ _. refusedAs 15)))
+      go : (a : Bool) → isSession d ≡ a
+          → Shows d (lost (sessionAt d)) (either a (λ _. doneAs (lossOf (sessionAt d .state)) 0) (λ _. refusedAs 15)) (either a (λ _. sessionImage (lost (sessionAt d))) (λ _. d))
       go true p = image-seen p (lost (sessionAt d)) (loss-held (sessionAt d) (held p))
       go false p = (refl, refl)
