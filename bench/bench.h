@@ -6,12 +6,13 @@
 
 typedef void bench_rounds(unsigned long rounds);
 
-/* Each prepares a case and answers the function that runs it; NULL if the name is another's.
- * `empty` puts a call in place that has the same shape and does nothing. */
-bench_rounds *reads_case(const char *what, const char *name, unsigned size, int empty);
-bench_rounds *writes_case(const char *what, const char *name, unsigned size, int empty);
-bench_rounds *tables_case(const char *what, const char *name, unsigned size, int empty);
-bench_rounds *sessions_case(const char *what, const char *name, unsigned size, int empty);
+/* A case as it is, its room of CHZ_ROOM bytes; with a room just long enough; or with a call in place that has the same shape and
+ * does nothing. */
+enum way { WAY_FULL, WAY_SHORT, WAY_EMPTY };
+
+/* Each prepares a case and answers the function that runs it; NULL if the name is another's. */
+typedef bench_rounds *bench_case(const char *what, const char *name, unsigned size, enum way way);
+bench_case reads_case, writes_case, tables_case, sessions_case, streams_case;
 
 /* The calls by their shapes, so that an empty one can stand in for them. */
 typedef uint64_t call_in_out(const uint8_t *in, size_t in_len, uint8_t *out, size_t out_len);
@@ -23,10 +24,15 @@ typedef uint64_t call_uplink(UPLINK_COLUMNS, uint64_t meter, uint32_t counter, u
 typedef uint64_t call_arrive(uint8_t *session, size_t session_len, const uint8_t *message, size_t message_len, uint64_t sc_eui,
                              const uint8_t *uuid, size_t uuid_len, const uint8_t *sign, size_t sign_len, uint8_t *room,
                              size_t room_len);
+typedef uint64_t call_begin(uint8_t *session, size_t session_len, const uint8_t *message, size_t message_len, uint8_t *room,
+                            size_t room_len);
+typedef uint64_t call_lost(uint8_t *session, size_t session_len);
 call_in_out empty_in_out;
 call_frame empty_frame;
 call_uplink empty_uplink;
 call_arrive empty_arrive;
+call_begin empty_begin;
+call_lost empty_lost;
 
 /* The meter table. */
 #define ROWS_MOST 38000
@@ -37,5 +43,14 @@ extern uint32_t last[ROWS_MOST];
 #define COLUMNS(rows) used, rows, eui, rows, sh_addr, rows, last, rows, heard, rows
 void table_fill(size_t rows);
 uint64_t table_meter(size_t row);
+
+/* What the centre lends to chz_arrive, and a session brought to its opening: con and conCmp, as a station sends them. */
+extern const uint64_t centre;
+extern const uint8_t uuid[16], sign[4];
+void session_open(chz_session *session);
+
+/* How many bytes a round goes down the stack; and a check that this finds the depth of a call whose depth is known. */
+size_t stack_depth(bench_rounds *run);
+void stack_check(void);
 
 #endif

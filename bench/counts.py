@@ -1,4 +1,4 @@
-"""The file of counts: WHAT NAME SIZE full|empty NUMBER [NUMBER]."""
+"""The file of counts: WHAT NAME SIZE full|empty|stack NUMBER [NUMBER]."""
 
 
 def load(path):
@@ -21,6 +21,8 @@ EMPTY = {
     "fixed": ("write", "detRsp", 0),
     "uplink": ("uplink", "rows", 100),
     "arrive": ("arrive", "ping", 0),
+    "begin": ("begin", "ping", 0),
+    "lost": ("lost", "open", 0),
     "frame": ("frame", "rows", 1),
     "stream": ("stream", "rows", 1),
 }

@@ -27,3 +27,15 @@ uint64_t empty_arrive(uint8_t *session, size_t session_len, const uint8_t *messa
     (void)sign, (void)sign_len, (void)room, (void)room_len;
     return 0;
 }
+
+uint64_t empty_begin(uint8_t *session, size_t session_len, const uint8_t *message, size_t message_len, uint8_t *room, size_t room_len)
+{
+    (void)session, (void)session_len, (void)message, (void)message_len, (void)room, (void)room_len;
+    return 0;
+}
+
+uint64_t empty_lost(uint8_t *session, size_t session_len)
+{
+    (void)session, (void)session_len;
+    return 0;
+}

@@ -62,6 +62,16 @@ static void fill_ul_data(chz_message *m, unsigned size)
     for (unsigned i = 0; i < size; i++) m->user_data[i] = (uint8_t)(7 * i);
 }
 
+static void fill_att_prp(chz_message *m)
+{
+    m->command = CHZ_ATT_PRP;
+    m->ep_eui = 0x70B3D50000000001;
+    m->bidi = m->dual_chan = m->wide_carr_off = 1;
+    m->sh_addr = 40000;
+    m->last_packet_cnt = 70000;
+    for (int i = 0; i < 16; i++) m->nwk_sn_key[i] = (uint8_t)(17 * i);
+}
+
 void message_fill(chz_message *m, const char *name, unsigned size)
 {
     memset(m, 0, sizeof *m);
@@ -70,6 +80,7 @@ void message_fill(chz_message *m, const char *name, unsigned size)
     if (!strcmp(name, "con")) fill_con(m);
     if (!strcmp(name, "conRsp")) fill_con_rsp(m);
     if (!strcmp(name, "ulData")) fill_ul_data(m, size);
+    if (!strcmp(name, "attPrp")) fill_att_prp(m);
     if (!strcmp(name, "detRsp")) {
         m->command = CHZ_DET_RSP;
         memcpy(m->sign, "\x01\x02\xFF\x00", 4);
@@ -176,6 +187,14 @@ static void pack_pairs(msgpack_packer *pk, unsigned pairs)
     }
 }
 
+static void pack_nested(msgpack_packer *pk, unsigned arrays)
+{
+    start(pk, 3, "ping", 4, 1);
+    KEY("k");
+    while (arrays--) msgpack_pack_array(pk, 1);
+    msgpack_pack_nil(pk);
+}
+
 size_t payload_make(uint8_t *payload, chz_message *m, const char *name, unsigned size)
 {
     msgpack_sbuffer made;
@@ -184,6 +203,7 @@ size_t payload_make(uint8_t *payload, chz_message *m, const char *name, unsigned
     msgpack_packer_init(&pk, &made, msgpack_sbuffer_write);
     message_fill(m, name, size);
     if (!strcmp(name, "pairs")) pack_pairs(&pk, size);
+    else if (!strcmp(name, "nested")) pack_nested(&pk, size);
     else if (!strcmp(name, "con")) pack_con(&pk, m, 1);
     else message_pack(&pk, m);
     need(made.size <= PAYLOAD_MOST, "payload too long");

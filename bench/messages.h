@@ -10,14 +10,15 @@
 #define PAYLOAD_MOST 4096
 #define PAIRS_MOST 500
 
-/* Fills an image. The names are ping, con, detRsp, conRsp and ulData; size is the bytes of user data. */
+/* Fills an image. The names are ping, con, detRsp, conRsp, ulData and attPrp; size is the bytes of user data. */
 void message_fill(chz_message *m, const char *name, unsigned size);
 
-/* Packs the same message in the library's own order. */
+/* Packs the same message in the library's own order; attPrp isn't packed. */
 void message_pack(msgpack_packer *pk, const chz_message *m);
 
 /* A payload to read, packed with msgpack-c: the length. con has its descriptive fields too, and `pairs` is ping 1 with
- * that many unknown pairs (500 of them make 4,096 bytes). The image is what has to be read. */
+ * that many unknown pairs (500 of them make 4,096 bytes), `nested` with one, its value in that many arrays (six of them are
+ * as deep as may be). The image is what has to be read. */
 size_t payload_make(uint8_t *payload, chz_message *m, const char *name, unsigned size);
 
 /* Writes the eight letters of a frame, and its size. */

@@ -11,6 +11,7 @@ static size_t payload_len;
 static _Alignas(64) chz_message image;
 static call_in_out *volatile call;
 
+/* A jump in code that is optimised: no stack of its own. */
 static uint64_t form(const uint8_t *in, size_t in_len, uint8_t *out, size_t out_len)
 {
     (void)out, (void)out_len;
@@ -67,7 +68,7 @@ static void rounds_size(unsigned long rounds)
     printf("%zu %u\n", payload_len, (unsigned)chz_value(answer));
 }
 
-bench_rounds *reads_case(const char *what, const char *name, unsigned size, int empty)
+bench_rounds *reads_case(const char *what, const char *name, unsigned size, enum way way)
 {
     if (!strcmp(what, "read")) call = chz_read;
     else if (!strcmp(what, "form")) call = form;
@@ -78,6 +79,6 @@ bench_rounds *reads_case(const char *what, const char *name, unsigned size, int 
     else if (strcmp(what, "size")) return NULL;
     agree(name, size);
     if (!strcmp(what, "size")) return rounds_size;
-    if (empty) call = empty_in_out;
+    if (way == WAY_EMPTY) call = empty_in_out;
     return rounds_read;
 }

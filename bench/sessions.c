@@ -1,119 +1,146 @@
-/* The session's step, and a stream of frames taken end to end. */
+/* The session's calls: a message arrives, the centre begins an operation, the connection is lost. */
 #include "bench.h"
 
 #include <string.h>
 
-#define STREAM_FRAMES 16 /* as many operations as may be open */
-
-static const uint64_t centre = 0x70B3D5FFFE000001;
-static const uint8_t uuid[16] = { 1 }, sign[4] = { 2 };
-static _Alignas(64) chz_session opened, session;
+const uint64_t centre = 0x70B3D5FFFE000001;
+const uint8_t uuid[16] = { 1 }, sign[4] = { 2 };
+static _Alignas(64) chz_session start, session;
 static _Alignas(64) chz_message image;
 static _Alignas(64) uint8_t room[CHZ_ROOM];
-static _Alignas(64) uint8_t stream[STREAM_FRAMES * CHZ_ROOM];
-static size_t stream_len, rows;
-static call_arrive *volatile call;
-static call_frame *volatile frame_call;
+static size_t room_len;
+static call_arrive *volatile arrive_call;
+static call_begin *volatile begin_call;
+static call_lost *volatile lost_call;
 
-static uint64_t arrive(call_arrive *step, const chz_message *m)
-{
-    return step((uint8_t *)&session, sizeof session, (const uint8_t *)m, sizeof *m, centre, uuid, sizeof uuid, sign,
-                sizeof sign, room, sizeof room);
-}
-
-/* con and conCmp, as a station sends them. */
-static void open_session(void)
-{
-    chz_message m;
-    memset(&session, 0, sizeof session);
-    message_fill(&m, "con", 0);
-    need(chz_happened(arrive(chz_arrive, &m)) == CHZ_BEGUN, "con doesn't begin a session");
-    memset(&m, 0, sizeof m);
-    m.command = CHZ_CON_CMP;
-    need(chz_happened(arrive(chz_arrive, &m)) == CHZ_OPENED, "conCmp doesn't open the session");
-    opened = session;
-}
-
-/* A round starts from the session just opened: the copy is in the empty round too. */
+/* A round starts from the same session: the copy is in the empty round too. */
 static void rounds_arrive(unsigned long rounds)
 {
     while (rounds--) {
-        session = opened;
-        arrive(call, &image);
+        session = start;
+        arrive_call((uint8_t *)&session, sizeof session, (const uint8_t *)&image, sizeof image, centre, uuid, sizeof uuid, sign,
+                    sizeof sign, room, room_len);
     }
 }
 
-static void make_stream(unsigned size)
-{
-    for (unsigned i = 0; i < STREAM_FRAMES; i++) {
-        message_fill(&image, "ulData", size);
-        image.op_id = i + 1;
-        image.packet_cnt = i + 1;
-        image.ep_eui = table_meter(rows - 1);
-        uint64_t answer = chz_write((const uint8_t *)&image, sizeof image, stream + stream_len, CHZ_ROOM);
-        need(!chz_refused(answer), "chz_write refuses the stream's message");
-        stream_len += chz_value(answer);
-    }
-}
-
-/* Four calls a frame; how many readings were billed. */
-static unsigned take_stream(void)
-{
-    unsigned billed = 0;
-    session = opened;
-    last[rows - 1] = 0;
-    for (size_t at = 0; at < stream_len;) {
-        uint64_t frame = chz_frame(stream + at, stream_len - at);
-        if (chz_refused(frame)) break;
-        const uint8_t *payload = stream + at + FRAME_HEAD;
-        at += chz_value(frame);
-        if (chz_refused(chz_read(payload, chz_value(frame) - FRAME_HEAD, (uint8_t *)&image, sizeof image))) continue;
-        if (chz_happened(arrive(chz_arrive, &image)) != CHZ_STARTED) continue;
-        uint64_t credit = chz_uplink(COLUMNS(rows), image.ep_eui, image.packet_cnt, 5);
-        billed += chz_happened(credit) == CHZ_NEW;
-    }
-    return billed;
-}
-
-static void rounds_stream(unsigned long rounds)
-{
-    while (rounds--) take_stream();
-}
-
-/* A round without its frames. */
-static void rounds_none(unsigned long rounds)
+static void rounds_begin(unsigned long rounds)
 {
     while (rounds--) {
-        session = opened;
-        __asm__ volatile("" ::: "memory");
+        session = start;
+        begin_call((uint8_t *)&session, sizeof session, (const uint8_t *)&image, sizeof image, room, room_len);
     }
 }
 
-static void rounds_frame(unsigned long rounds)
+static void rounds_lost(unsigned long rounds)
 {
-    while (rounds--) frame_call(stream, stream_len);
+    while (rounds--) {
+        session = start;
+        lost_call((uint8_t *)&session, sizeof session);
+    }
 }
 
-static bench_rounds *arrive_case(const char *name, unsigned size, int empty)
+void session_open(chz_session *s)
 {
-    message_fill(&image, name, size);
-    session = opened;
-    need(chz_happened(arrive(chz_arrive, &image)) == CHZ_STARTED, "chz_arrive doesn't start the operation");
-    call = empty ? empty_arrive : chz_arrive;
-    return rounds_arrive;
+    chz_message m;
+    uint8_t reply[CHZ_ROOM];
+    memset(s, 0, sizeof *s);
+    message_fill(&m, "con", 0);
+    uint64_t answer = chz_session_arrive(s, &m, centre, uuid, sign, reply, sizeof reply);
+    need(chz_happened(answer) == CHZ_BEGUN, "con doesn't begin a session");
+    memset(&m, 0, sizeof m);
+    m.command = CHZ_CON_CMP;
+    answer = chz_session_arrive(s, &m, centre, uuid, sign, reply, sizeof reply);
+    need(chz_happened(answer) == CHZ_OPENED, "conCmp doesn't open the session");
 }
 
-bench_rounds *sessions_case(const char *what, const char *name, unsigned size, int empty)
+/* Each side has an operation open when the connection is lost. */
+static void session_store(chz_session *s)
 {
-    int framed = !strcmp(what, "frame"), streamed = !strcmp(what, "stream");
-    if (!framed && !streamed && strcmp(what, "arrive")) return NULL;
-    open_session();
-    if (!framed && !streamed) return arrive_case(name, size, empty);
-    rows = size;
-    table_fill(rows);
-    make_stream(40);
-    need(take_stream() == STREAM_FRAMES, "the stream isn't billed");
-    frame_call = empty ? empty_frame : chz_frame;
-    if (framed) return rounds_frame;
-    return empty ? rounds_none : rounds_stream;
+    chz_message m;
+    uint8_t sent[CHZ_ROOM];
+    message_fill(&m, "ping", 0);
+    need(chz_happened(chz_session_arrive(s, &m, centre, uuid, sign, sent, sizeof sent)) == CHZ_STARTED, "ping doesn't start");
+    need(chz_happened(chz_session_begin(s, &m, sent, sizeof sent)) == CHZ_ISSUED, "the centre's ping isn't issued");
+    need(chz_happened(chz_session_lost(s)) == CHZ_STORED, "the session isn't stored");
+}
+
+/* A case, the message that it hands in, whether the session was stored before, what happens and what is written. */
+struct step {
+    const char *what, *name, *message;
+    int stored;
+    unsigned happened;
+    enum chz_command sent;
+};
+
+/* con comes to a stored session: with IDs that the session doesn't know it begins anew, with the session's own it resumes. */
+static const struct step steps[] = {
+    { "arrive", "ping", "ping", 0, CHZ_STARTED, CHZ_PING_RSP },
+    { "arrive", "ulData", "ulData", 0, CHZ_STARTED, CHZ_UL_DATA_RSP },
+    { "arrive", "con", "con", 1, CHZ_BEGUN, CHZ_CON_RSP },
+    { "arrive", "resume", "con", 1, CHZ_RESUMED, CHZ_CON_RSP },
+    { "begin", "ping", "ping", 0, CHZ_ISSUED, CHZ_PING },
+    { "begin", "attPrp", "attPrp", 0, CHZ_ISSUED, CHZ_ATT_PRP },
+};
+
+static void prepare(const struct step *s, unsigned size)
+{
+    session_open(&start);
+    if (s->stored) session_store(&start);
+    message_fill(&image, s->message, size);
+    if (s->happened != CHZ_RESUMED) return;
+    image.sn_bs_op_id = start.highest;
+    image.sn_sc_op_id = start.lowest;
+}
+
+/* The message that the step has to send. */
+static chz_message message_sent(const struct step *s)
+{
+    chz_message m = image;
+    if (s->happened != CHZ_ISSUED) message_fill(&m, s->sent == CHZ_CON_RSP ? "conRsp" : "ping", 0);
+    m.command = s->sent;
+    m.op_id = s->happened == CHZ_ISSUED ? start.lowest - 1 : image.op_id;
+    if (s->sent != CHZ_CON_RSP) return m;
+    m.sn_resume = s->happened == CHZ_RESUMED;
+    memcpy(m.sn_sc_uuid, uuid, sizeof uuid);
+    return m;
+}
+
+/* In the room of that length the step is taken, and its message stands there: its length. */
+static size_t agree(const struct step *s, size_t len)
+{
+    uint8_t frame[CHZ_ROOM];
+    chz_message wanted = message_sent(s);
+    size_t wanted_len = chz_value(chz_message_write(&wanted, frame, sizeof frame));
+    session = start;
+    memset(room, 0xEE, sizeof room);
+    uint64_t answer = s->happened == CHZ_ISSUED ? chz_session_begin(&session, &image, room, len)
+                                                : chz_session_arrive(&session, &image, centre, uuid, sign, room, len);
+    need(chz_refused(answer) == CHZ_DONE && chz_happened(answer) == s->happened, "another step is taken");
+    need(wanted_len && chz_value(answer) == wanted_len && !memcmp(room, frame, wanted_len), "another message is written");
+    return wanted_len;
+}
+
+static bench_rounds *lost_case(enum way way)
+{
+    session_open(&start);
+    session = start;
+    need(chz_happened(chz_session_lost(&session)) == CHZ_STORED, "chz_lost doesn't store the session");
+    need(session.stored == 1 && session.state == CHZ_WAITING, "the session doesn't wait");
+    lost_call = way == WAY_EMPTY ? empty_lost : chz_lost;
+    return rounds_lost;
+}
+
+bench_rounds *sessions_case(const char *what, const char *name, unsigned size, enum way way)
+{
+    const struct step *s = steps, *end = steps + sizeof steps / sizeof *steps;
+    if (!strcmp(what, "lost")) return lost_case(way);
+    while (s < end && (strcmp(s->what, what) || strcmp(s->name, name))) s++;
+    if (s == end) return NULL;
+    prepare(s, size);
+    room_len = agree(s, sizeof room);
+    need(agree(s, room_len) == room_len, "another length in a short room");
+    if (way != WAY_SHORT) room_len = sizeof room;
+    arrive_call = way == WAY_EMPTY ? empty_arrive : chz_arrive;
+    begin_call = way == WAY_EMPTY ? empty_begin : chz_begin;
+    return s->happened == CHZ_ISSUED ? rounds_begin : rounds_arrive;
 }

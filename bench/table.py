@@ -17,8 +17,32 @@ WRITES = [
     ("ulData, 40 bytes of user data", "ulData", 40),
     ("ulData, 245 bytes of user data", "ulData", 245),
 ]
-
-
+STEPS = [
+    ("chz_arrive, ping", "arrive", "ping", 0),
+    ("chz_arrive, ulData with 40 bytes", "arrive", "ulData", 40),
+    ("chz_arrive, con that begins a session anew", "arrive", "con", 0),
+    ("chz_arrive, con that resumes", "arrive", "resume", 0),
+    ("chz_begin, ping", "begin", "ping", 0),
+    ("chz_begin, attPrp", "begin", "attPrp", 0),
+    ("chz_lost, an open session", "lost", "open", 0),
+]
+FRAME = ("chz_frame, ulData with 40 bytes", "frame", "rows", 1)
+STACKS = [
+    FRAME,
+    ("chz_form, con", "form", "con", 0),
+    ("chz_form, ulData with 245 bytes", "form", "ulData", 245),
+    ("chz_form, ping nested eight levels deep", "form", "nested", 6),
+    ("chz_read, con", "read", "con", 0),
+    ("chz_read, ulData with 245 bytes", "read", "ulData", 245),
+    ("chz_read, ping nested eight levels deep", "read", "nested", 6),
+    ("chz_write, detRsp", "write", "detRsp", 0),
+    ("chz_write, conRsp", "write", "conRsp", 0),
+    ("chz_write, ulData with 40 bytes", "write", "ulData", 40),
+    ("chz_write, ulData with 245 bytes", "write", "ulData", 245),
+    *STEPS,
+    ("chz_uplink, 1,000 rows", "uplink", "rows", 1000),
+]
+HAVE_ROOM = ("write", "arrive", "begin")
 GROWTH = [
     ("reading: a byte of user data", "ulData", ("read", "unpack", "check"), 0, 245),
     ("reading: an unknown pair", "pairs", ("read", "unpack", "check"), 0, 500),
@@ -70,13 +94,19 @@ def tables(counts):
 
 def sessions(counts):
     print("### Session and stream\n")
-    table(["call", "instructions"], [
-        ["chz_frame, ulData with 40 bytes", cost(counts, "frame", "rows", 1)],
-        ["chz_arrive, ping", cost(counts, "arrive", "ping", 0)],
-        ["chz_arrive, ulData with 40 bytes", cost(counts, "arrive", "ulData", 40)],
+    table(["call", "instructions"], [[label, cost(counts, *call)] for label, *call in (FRAME, *STEPS)] + [
         ["a frame of the stream, table of 1 row", round(cost(counts, "stream", "rows", 1) / FRAMES)],
         ["a frame of the stream, table of 1,000 rows", round(cost(counts, "stream", "rows", 1000) / FRAMES)],
     ])
+
+
+def stacks(counts):
+    print("### Stack\n")
+    rows = []
+    for label, *call in STACKS:
+        deep, deep_short = counts[(*call, "stack")]
+        rows.append([label, deep, deep_short if call[0] in HAVE_ROOM else None])
+    table(["call", "bytes of stack", "with a room just long enough"], rows)
 
 
 def slope(counts, what, name, first, last):
@@ -112,7 +142,8 @@ def growth(counts):
 def empties(counts):
     print("Taken off, the round with an empty call of the same shape: " + ", ".join(
         f"{label} {empty(counts, what)}" for label, what in
-        [("reading", "read"), ("writing", "write"), ("crediting", "uplink"), ("session", "arrive")]) +
+        [("reading", "read"), ("writing", "write"), ("crediting", "uplink"), ("chz_arrive", "arrive"), ("chz_begin", "begin"),
+         ("chz_lost", "lost")]) +
         f"; the stream's 16 frames together {empty(counts, 'stream')}.\n")
 
 
@@ -122,7 +153,7 @@ def main():
         for line in lines:
             print("- " + line.rstrip())
     print()
-    for part in (reads, writes, tables, sessions, growth, empties):
+    for part in (reads, writes, tables, sessions, growth, empties, stacks):
         part(counts)
 
 

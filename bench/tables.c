@@ -32,16 +32,17 @@ static void rounds_uplink(unsigned long rounds)
     while (rounds--) call(COLUMNS(rows), table_meter(rows - 1), ++counter, 5);
 }
 
-bench_rounds *tables_case(const char *what, const char *name, unsigned size, int empty)
+bench_rounds *tables_case(const char *what, const char *name, unsigned size, enum way way)
 {
     if (strcmp(what, "uplink")) return NULL;
     (void)name;
     rows = size;
+    counter = 0;
     table_fill(rows);
     uint64_t answer = chz_uplink(COLUMNS(rows), table_meter(rows - 1), ++counter, 5);
     need(!chz_refused(answer) && chz_happened(answer) == CHZ_NEW && chz_uplink_hearers(answer) == 1, "chz_uplink doesn't credit");
     need(chz_uplink_row(answer) == rows - 1, "chz_uplink names another row");
     need(last[rows - 1] == 1 && heard[rows - 1] == 1 << 5, "chz_uplink changes another row");
-    call = empty ? empty_uplink : chz_uplink;
+    call = way == WAY_EMPTY ? empty_uplink : chz_uplink;
     return rounds_uplink;
 }

@@ -4,6 +4,7 @@
 #include <string.h>
 
 static _Alignas(64) uint8_t room[CHZ_ROOM];
+static size_t room_len, wanted_len;
 static _Alignas(64) chz_message image;
 static call_in_out *volatile call;
 static msgpack_sbuffer again;
@@ -51,15 +52,21 @@ static uint64_t pack_fixed(const uint8_t *in, size_t in_len, uint8_t *out, size_
 
 static void rounds_write(unsigned long rounds)
 {
-    while (rounds--) call((const uint8_t *)&image, sizeof image, room, sizeof room);
+    while (rounds--) call((const uint8_t *)&image, sizeof image, room, room_len);
 }
-
-static size_t wanted_len;
 
 static void rounds_size(unsigned long rounds)
 {
     (void)rounds;
     printf("%zu\n", wanted_len);
+}
+
+/* A room that is just long enough has to do. Afterwards it holds other bytes again, for who has to make the same ones next. */
+static void agree_short(uint64_t answer, const uint8_t *wanted)
+{
+    need(chz_write((const uint8_t *)&image, sizeof image, room, wanted_len) == answer, "chz_write answers otherwise in a short room");
+    need(!memcmp(room, wanted, wanted_len), "other bytes in a short room");
+    memset(room, 0xEE, sizeof room);
 }
 
 /* All sides have to make the same bytes. */
@@ -70,6 +77,7 @@ static void agree(const char *name, unsigned size)
     uint64_t answer = chz_write((const uint8_t *)&image, sizeof image, wanted, sizeof wanted);
     need(chz_refused(answer) == CHZ_DONE, "chz_write refuses the message");
     wanted_len = chz_value(answer);
+    agree_short(answer, wanted);
     need(pack_fixed((const uint8_t *)&image, sizeof image, room, sizeof room) == wanted_len, "another length in the fixed buffer");
     need(!memcmp(room, wanted, wanted_len), "other bytes in the fixed buffer");
     msgpack_sbuffer_init(&again);
@@ -77,7 +85,7 @@ static void agree(const char *name, unsigned size)
     need(!memcmp(again.data, wanted, wanted_len), "other bytes in the sbuffer");
 }
 
-bench_rounds *writes_case(const char *what, const char *name, unsigned size, int empty)
+bench_rounds *writes_case(const char *what, const char *name, unsigned size, enum way way)
 {
     if (!strcmp(what, "write")) call = chz_write;
     else if (!strcmp(what, "sbuffer")) call = pack_sbuffer;
@@ -85,6 +93,7 @@ bench_rounds *writes_case(const char *what, const char *name, unsigned size, int
     else if (strcmp(what, "framed")) return NULL;
     agree(name, size);
     if (!strcmp(what, "framed")) return rounds_size;
-    if (empty) call = empty_in_out;
+    if (way == WAY_EMPTY) call = empty_in_out;
+    room_len = way == WAY_SHORT ? wanted_len : sizeof room;
     return rounds_write;
 }

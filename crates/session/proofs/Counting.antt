@@ -1,6 +1,6 @@
 -- A start that is accepted takes exactly one entry, a Cmp or Rsp frees exactly one, a new session has none, and nothing else changes how many are open:
 -- of each step by its cases, of a run by induction over it. Assumes nothing.
-use mathlib.Core.Path.{_≡_, refl, sym, ap, _∙_}
+use mathlib.Core.Path.{_≡_, refl, ap, _∙_}
 use mathlib.Core.Bool.{Bool, true, false, _&&_}
 use mathlib.Core.List.{List, [], _∷_}
 use mathlib.Core.Option.{Option, some, none}
@@ -10,7 +10,6 @@ use lib.Dec.{eqb}
 use lib.IntN.{ℤ, pos, negsuc}
 use borrow.Author.Tests.{ltb-true, ne-eqb}
 use Rattle.octets.specs.Choice.{either}
-use Rattle.octets.proofs.Ranges.{true-false}
 use Rattle.names.specs.Names.{bytes, commandOf}
 use Rattle.message.specs.declared.Message.{Message}
 use Rattle.saying.specs.Fits.{fits}
@@ -18,9 +17,10 @@ use Rattle.session.specs.Session.{State, Session, Host}
 use Rattle.session.specs.Session.State.{Waiting, Connecting, Open}
 use Rattle.session.specs.Place.{sameId, freePlace, placeOf, openIn}
 use Rattle.session.specs.Kinds.{Operation, stationStarts, centreStarts, operationBy}
-use Rattle.session.specs.Arrive.{Outcome, below, highestOf, lowestOf, resumes, starts, startAt, completeAt, respondAt, orElse, inWaiting, inConnecting, whenOpen, inState, arrives}
-use Rattle.session.specs.Centre.{oneBelow, lastId, underId, beginAt, begins, kindBegins, ifOpen, centreBegins, lostIn, lost}
+use Rattle.session.specs.Arrive.{Outcome, below, highestOf, lowestOf, resumes, starts, startAt, completeAt, respondAt, inWaiting, inConnecting, whenOpen, inState, arrives}
+use Rattle.session.specs.Centre.{oneBelow, lastId, underId, beginAt, kindBegins, ifOpen, centreBegins, lostIn, lost}
 use Rattle.session.specs.Run.{Event, reached, after, happenedOf, lossOf, happenedIn, stationAfter, centreAfter, afterAll, countAll}
+use Rattle.session.proofs.Cases.{by-test, by-result, by-choice}
 use Rattle.session.proofs.Entries.{frees-one, takes-one}
 
 -- both sides' counts, from one session to another
@@ -32,14 +32,6 @@ abbrev Counts : Session → Outcome → Type 0
 Counts s (Outcome.refused n) = Unit {0}
 Counts s (Outcome.silent w t) = Counted s w t
 Counts s (Outcome.replies w t m) = Counted s w t
-
-by-test : (s : Session) (b : Bool) (x y : Outcome) → Counts s x → Counts s y → Counts s (either b (λ _. x) (λ _. y))
-by-test s true x y p q = p
-by-test s false x y p q = q
-
-by-choice : (s : Session) (p : Option Operation) (g : Operation → Outcome) (x : Outcome) → ((o : Operation) → Counts s (g o)) → Counts s x → Counts s (orElse p g (λ _. x))
-by-choice s none g x h q = q
-by-choice s (some o) g x h q = h o
 
 -- an ID above the highest, and one below the lowest, is not 0
 above : (h z : ℤ) → below (either (below h (pos 0)) (λ _. pos 0) (λ _. h)) z ≡ true → sameId z (pos 0) ≡ false
@@ -64,11 +56,7 @@ module _ (s : Session) where
   counted-start h o z (some i) n e = record { station = takes-one (s .station) i z (o .start) n e; centre = refl }
 
   counted-starts : (h : Host) (o : Operation) (z : ℤ) → Counts s (starts s h o z)
-  counted-starts h o z = go (below (highestOf s) z) refl
-    where
-      go : (b : Bool) → below (highestOf s) z ≡ b → Counts s (either b (λ _. startAt s h o z (freePlace (s .station))) (λ _. Outcome.refused 18))
-      go true e = counted-start h o z (freePlace (s .station)) (above (s .highest) z e) refl
-      go false e = tt
+  counted-starts h o z = by-result (Counts s) (below (highestOf s) z) _ _ (λ e. counted-start h o z (freePlace (s .station)) (above (s .highest) z e) refl) (λ e. tt)
 
   counted-complete : (k : ℕ) (z : ℤ) (p : Option ℕ) → placeOf z k (s .station) ≡ p → Counts s (completeAt s p)
   counted-complete k z none e = tt
@@ -81,21 +69,21 @@ module _ (s : Session) where
   counted-open : (h : Host) (c : ℕ) (z : ℤ) → Counts s (whenOpen s h c z)
   unfolding whenOpen
   counted-open h c z =
-      by-choice s (operationBy (λ o. o .start) stationStarts c) _ _ (λ o. counted-starts h o z)
-      (by-choice s (operationBy (λ o. o .cmp) stationStarts c) _ _ (λ o. counted-complete (o .start) z (placeOf z (o .start) (s .station)) refl)
-      (by-choice s (operationBy (λ o. o .rsp) centreStarts c) _ _ (λ o. counted-respond o z (placeOf z (o .start) (s .centre)) refl) tt))
+      by-choice (Counts s) (operationBy (λ o. o .start) stationStarts c) _ _ (λ o. counted-starts h o z)
+      (by-choice (Counts s) (operationBy (λ o. o .cmp) stationStarts c) _ _ (λ o. counted-complete (o .start) z (placeOf z (o .start) (s .station)) refl)
+      (by-choice (Counts s) (operationBy (λ o. o .rsp) centreStarts c) _ _ (λ o. counted-respond o z (placeOf z (o .start) (s .centre)) refl) tt))
 
   counted-waiting : (m : Message) (h : Host) → Counts s (inWaiting s m h)
   unfolding inWaiting
   counted-waiting m h =
-      by-test s (eqb (m .command) (commandOf (bytes "con"))) _ _
-      (by-test s (sameId (m .«op_id») (pos 0)) _ _
-      (by-test s (eqb (m .version .major) 1 && eqb (m .version .minor) 0) _ _
-      (by-test s (resumes s m) _ _ (record { station = refl; centre = refl }) (record { station = refl; centre = refl })) tt) tt) tt
+      by-test (Counts s) (eqb (m .command) (commandOf (bytes "con"))) _ _
+      (by-test (Counts s) (sameId (m .«op_id») (pos 0)) _ _
+      (by-test (Counts s) (eqb (m .version .major) 1 && eqb (m .version .minor) 0) _ _
+      (by-test (Counts s) (resumes s m) _ _ (record { station = refl; centre = refl }) (record { station = refl; centre = refl })) tt) tt) tt
 
   counted-connecting : (m : Message) → Counts s (inConnecting s m)
   unfolding inConnecting
-  counted-connecting m = by-test s (eqb (m .command) (commandOf (bytes "conCmp")) && sameId (m .«op_id») (pos 0)) _ _ (record { station = refl; centre = refl }) tt
+  counted-connecting m = by-test (Counts s) (eqb (m .command) (commandOf (bytes "conCmp")) && sameId (m .«op_id») (pos 0)) _ _ (record { station = refl; centre = refl }) tt
 
   counted-state : (x : State) (m : Message) (h : Host) → Counts s (inState x s m h)
   counted-state Waiting m h = counted-waiting m h
@@ -104,12 +92,12 @@ module _ (s : Session) where
 
   counted-arrival : (m : Message) (h : Host) → Counts s (arrives s m h)
   unfolding arrives
-  counted-arrival m h = by-test s (fits m) _ _ (counted-state (s .state) m h) tt
+  counted-arrival m h = by-test (Counts s) (fits m) _ _ (counted-state (s .state) m h) tt
 
   counted-issue : (o : Operation) (m : Message) (p : Option ℕ) → freePlace (s .centre) ≡ p → Counts s (beginAt s o (oneBelow (lowestOf s)) m p)
   counted-issue o m none e = tt
   counted-issue o m (some i) e =
-      by-test s (fits m) _ _ (record { station = refl; centre = takes-one (s .centre) i (oneBelow (lowestOf s)) (o .start) (under (lowestOf s)) e }) tt
+      by-test (Counts s) (fits m) _ _ (record { station = refl; centre = takes-one (s .centre) i (oneBelow (lowestOf s)) (o .start) (under (lowestOf s)) e }) tt
 
   counted-begin : (m : Message) → Counts s (centreBegins s m)
   unfolding centreBegins
@@ -119,8 +107,8 @@ module _ (s : Session) where
       go Waiting = tt
       go Connecting = tt
       go Open =
-          by-choice s (operationBy (λ o. o .start) centreStarts (m .command)) _ _
-          (λ o. by-test s (sameId (lowestOf s) lastId) _ _ tt (counted-issue o (underId (oneBelow (lowestOf s)) m) (freePlace (s .centre)) refl)) tt
+          by-choice (Counts s) (operationBy (λ o. o .start) centreStarts (m .command)) _ _
+          (λ o. by-test (Counts s) (sameId (lowestOf s) lastId) _ _ tt (counted-issue o (underId (oneBelow (lowestOf s)) m) (freePlace (s .centre)) refl)) tt
 
 -- a step
 reached-counts : (s : Session) (o : Outcome) → Counts s o → Counted s (happenedOf o) (reached s o)

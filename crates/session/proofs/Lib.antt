@@ -3,7 +3,10 @@ pub mod Places
 pub mod Moves
 pub mod Rising
 pub mod Entries
+pub mod Cases
 pub mod Counting
 pub mod Image
 pub mod Stored
 pub mod Back
+pub mod Judged
+pub mod Holding

@@ -1,6 +1,6 @@
 -- The public calls: by the test of the bytes, of what the host lent, of the record, and by the state. Assumes nothing.
 use mathlib.Core.Path.{_≡_, refl, sym, ap, _∙_}
-use mathlib.Core.Bool.{Bool, true, false, not, _&&_, _||_}
+use mathlib.Core.Bool.{Bool, true, false, not, _||_}
 use mathlib.Core.List.{List}
 use Prim.Native.Nat.{ℕ, zero, suc, _<_}
 use native.Mathlib.Omega.{arith}
@@ -12,7 +12,6 @@ use borrow.Author.Tests.{eqb-true}
 use Rattle.octets.proofs.Reading.{is-bytes}
 use Rattle.message.specs.declared.Message.{Message}
 use Rattle.session.specs.Session.{Session, Host, State}
-use Rattle.session.specs.Session.State.{Waiting, Connecting, Open}
 use Rattle.session.specs.Arrive.{Outcome, inWaiting, inConnecting, inOpen, inState, arrives}
 use Rattle.session.specs.Centre.{kindBegins, ifOpen, centreBegins}
 use Rattle.session.specs.Image.{stateOf, sessionAt, isSession}
@@ -20,45 +19,23 @@ use Rattle.session.proofs.Image.{tested}
 use Rattle.steps.specs.declared.Answer.{Answer}
 use Rattle.steps.specs.Lies.{Lies}
 use Rattle.steps.specs.Called.{Called, called, refusedAs, calledBy, hostOf, arriveOn, beginOn}
+use Rattle.steps.proofs.Tests.{unset, set-is, both-set, not-both}
 use Rattle.steps.proofs.Calls.{refused-call}
-use Rattle.steps.proofs.Lying.{told-long, lies}
-
-unset : (b : Bool) → not b ≡ true → b ≡ false
-unset true e = sym e
-unset false e = refl
-
-set-is : (b : Bool) → not b ≡ false → b ≡ true
-set-is true e = refl
-set-is false e = sym e
-
--- neither length is wrong, or one is
-both-right : (a b : Bool) → not a || not b ≡ false → (a ≡ true) × (b ≡ true)
-both-right true true e = (refl, refl)
-both-right true false e = (refl, sym e)
-both-right false b e = let z : _≡_ {A = ℕ} 0 1 = cc in absurd (omega arith)
-
-one-wrong : (a b : Bool) → not a || not b ≡ true → a && b ≡ false
-one-wrong true true e = sym e
-one-wrong true false e = refl
-one-wrong false b e = refl
+use Rattle.steps.proofs.Lying.{told-long, lies, state-is}
 
 -- the state's byte
 module _ (d : List ℕ) (m : Message) (h : Host) where
   abbrev s : Session
   s = sessionAt d
 
-  state-is : (x : ℕ) → getD d 344 0 ≡ x → s .state ≡ stateOf x
-  unfolding sessionAt
-  state-is x p = ap stateOf p
-
   pub state-waiting : getD d 344 0 ≡ 0 → inState (s .state) s m h ≡ inWaiting s m h
-  state-waiting e = ap (λ (x : State). inState x s m h) (state-is 0 e)
+  state-waiting e = ap (λ (x : State). inState x s m h) (state-is d 0 e)
 
   pub state-open : getD d 344 0 ≡ 2 → inState (s .state) s m h ≡ inOpen s m h
-  state-open e = ap (λ (x : State). inState x s m h) (state-is 2 e)
+  state-open e = ap (λ (x : State). inState x s m h) (state-is d 2 e)
 
   pub state-connecting : Lies d → (getD d 344 0 ≡ 0 → ⊥) → (getD d 344 0 ≡ 2 → ⊥) → inState (s .state) s m h ≡ inConnecting s m
-  state-connecting l p q = ap (λ (x : State). inState x s m h) (state-is (getD d 344 0) refl) ∙ go (getD d 344 0) p q (tested d (l .is) .state)
+  state-connecting l p q = ap (λ (x : State). inState x s m h) (state-is d (getD d 344 0) refl) ∙ go (getD d 344 0) p q (tested d (l .is) .state)
     where
       go : (x : ℕ) → (x ≡ 0 → ⊥) → (x ≡ 2 → ⊥) → x < 3 → inState (stateOf x) s m h ≡ inConnecting s m
       go zero p q l = absurd (p refl)
@@ -68,11 +45,11 @@ module _ (d : List ℕ) (m : Message) (h : Host) where
 
   pub begin-open : getD d 344 0 ≡ 2 → centreBegins s m ≡ kindBegins s (m .command) m
   unfolding centreBegins
-  begin-open e = ap (λ (x : State). ifOpen x (λ _. kindBegins s (m .command) m)) (state-is 2 e)
+  begin-open e = ap (λ (x : State). ifOpen x (λ _. kindBegins s (m .command) m)) (state-is d 2 e)
 
   pub begin-closed : Lies d → (getD d 344 0 ≡ 2 → ⊥) → centreBegins s m ≡ Outcome.refused 17
   unfolding centreBegins
-  begin-closed l q = ap (λ (x : State). ifOpen x (λ _. kindBegins s (m .command) m)) (state-is (getD d 344 0) refl) ∙ go (getD d 344 0) q (tested d (l .is) .state)
+  begin-closed l q = ap (λ (x : State). ifOpen x (λ _. kindBegins s (m .command) m)) (state-is d (getD d 344 0) refl) ∙ go (getD d 344 0) q (tested d (l .is) .state)
     where
       go : (x : ℕ) → (x ≡ 2 → ⊥) → x < 3 → ifOpen (stateOf x) (λ _. kindBegins s (m .command) m) ≡ Outcome.refused 17
       go zero q l = refl
@@ -101,19 +78,19 @@ module _ (d : List ℕ) (b : Bool) (e : b ≡ isSession d) where
       pub arrive-unlent : (r : Answer) → not b ≡ false → not (eqb (length u) 16) || not (eqb (length g) 4) ≡ true → r ≡ refusedAs 15
           → _≡_ {A = Called} (called r d room) (arriveOn d m eui u g room)
       unfolding arriveOn
-      arrive-unlent r t h p = simp (sym e ∙ set-is b t, one-wrong (eqb (length u) 16) (eqb (length g) 4) h) (refused-call d room (Outcome.refused 15) r 15 p refl)
+      arrive-unlent r t h p = simp (sym e ∙ set-is b t, not-both (eqb (length u) 16) (eqb (length g) 4) h) (refused-call d room (Outcome.refused 15) r 15 p refl)
 
       module _ (h : not (eqb (length u) 16) || not (eqb (length g) 4) ≡ false) where
         pub uuid-long : length u ≡ 16
-        uuid-long = eqb-true (length u) 16 (both-right (eqb (length u) 16) (eqb (length g) 4) h .0)
+        uuid-long = eqb-true (length u) 16 (both-set (eqb (length u) 16) (eqb (length g) 4) h .0)
 
         pub sign-long : length g ≡ 4
-        sign-long = eqb-true (length g) 4 (both-right (eqb (length u) 16) (eqb (length g) 4) h .1)
+        sign-long = eqb-true (length g) 4 (both-set (eqb (length u) 16) (eqb (length g) 4) h .1)
 
         pub arrive-by : (x : Called) (o : Outcome) → not b ≡ false → x ≡ calledBy d room o → arrives (sessionAt d) m (hostOf eui u g) ≡ o → x ≡ arriveOn d m eui u g room
         unfolding arriveOn
         arrive-by x o t p q =
-            let k = both-right (eqb (length u) 16) (eqb (length g) 4) h in
+            let k = both-set (eqb (length u) 16) (eqb (length g) 4) h in
             simp (sym e ∙ set-is b t, k .0, k .1) (p ∙ ap (calledBy d room) (sym q))
 
     pub begin-wrong : (r : Answer) → not b ≡ true → r ≡ refusedAs 15 → _≡_ {A = Called} (called r d room) (beginOn d m room)

@@ -1,5 +1,5 @@
 -- The code's tests while waiting and connecting are those of the definitions. Assumes nothing.
-use mathlib.Core.Path.{_≡_, refl, sym, _∙_}
+use mathlib.Core.Path.{_≡_, sym, _∙_}
 use mathlib.Core.Bool.{Bool, true, false, not, _&&_, _||_}
 use Prim.Native.Nat.{_<_}
 use lib.Dec.{eqb}
@@ -15,18 +15,8 @@ use Rattle.session.specs.Session.{Session, Host}
 use Rattle.session.specs.Place.{sameId}
 use Rattle.session.specs.Happened.{isBegun, isResumed, isOpened}
 use Rattle.session.specs.Arrive.{Outcome, conRspOf, resumes, resumed, begun, opened, connects, inWaiting, inConnecting, inState, arrives}
+use Rattle.steps.proofs.Tests.{unset, set-is, both-set, not-both}
 use Rattle.steps.proofs.Searching.{zero-bits}
-
--- neither part differs, or one does
-same-both : (a b : Bool) → not a || not b ≡ false → a && b ≡ true
-same-both true true e = refl
-same-both true false e = sym e
-same-both false b e = sym e
-
-not-both : (a b : Bool) → not a || not b ≡ true → a && b ≡ false
-not-both true true e = sym e
-not-both true false e = refl
-not-both false b e = refl
 
 module _ (s : Session) (m : Message) (h : Host) (g : mag (m .«op_id») < 0x8000000000000000) where
   zero-id : ofZ w64 (m .«op_id») ≡ 0 → sameId (m .«op_id») (pos 0) ≡ true
@@ -49,7 +39,7 @@ module _ (s : Session) (m : Message) (h : Host) (g : mag (m .«op_id») < 0x8000
 
   pub con-taken : m .command ≡ 0 → ofZ w64 (m .«op_id») ≡ 0 → not (eqb (m .version .major) 1) || not (eqb (m .version .minor) 0) ≡ false → inWaiting s m h ≡ connects s m h
   unfolding inWaiting commandOf commands placeIn
-  con-taken e f k = simp (eq-eqb (m .command) 0 e, zero-id f, same-both (eqb (m .version .major) 1) (eqb (m .version .minor) 0) k)
+  con-taken e f k = let v = both-set (eqb (m .version .major) 1) (eqb (m .version .minor) 0) k in simp (eq-eqb (m .command) 0 e, zero-id f, v .0, v .1)
 
 module _ (s : Session) (m : Message) (g : mag (m .«op_id») < 0x8000000000000000) where
   pub completes-con : eqb (m .command) 8 && eqb (ofZ w64 (m .«op_id»)) 0 ≡ true → inConnecting s m ≡ Outcome.silent isOpened (opened s)
@@ -69,18 +59,10 @@ module _ (s : Session) (m : Message) (h : Host) where
   resume-not e = simp e
 
 module _ (s : Session) (m : Message) (h : Host) (f : Bool) (g : f ≡ fits m) where
-  unset : (b : Bool) → not b ≡ true → b ≡ false
-  unset true t = sym t
-  unset false t = refl
-
-  set : (b : Bool) → not b ≡ false → b ≡ true
-  set true t = refl
-  set false t = sym t
-
   pub unfit-refused : not f ≡ true → arrives s m h ≡ Outcome.refused 15
   unfolding arrives
   unfit-refused t = simp (sym g ∙ unset f t)
 
   pub fit-taken : not f ≡ false → arrives s m h ≡ inState (s .state) s m h
   unfolding arrives
-  fit-taken t = simp (sym g ∙ set f t)
+  fit-taken t = simp (sym g ∙ set-is f t)

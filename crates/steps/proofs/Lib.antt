@@ -1,3 +1,4 @@
+pub mod Tests
 pub mod Calls
 pub mod Lying
 pub mod Knowing
@@ -16,3 +17,4 @@ pub mod Commands
 pub mod Calling
 pub mod Replying
 pub mod Settled
+pub mod Seen

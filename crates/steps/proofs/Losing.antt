@@ -2,9 +2,9 @@
 use mathlib.Core.Path.{_≡_, refl, sym, ap, _∙_}
 use mathlib.Core.Bool.{Bool, true, false, not}
 use mathlib.Core.List.{List}
-use Prim.Native.Nat.{ℕ, zero, suc, _<_}
+use Prim.Native.Nat.{ℕ, zero, suc}
 use native.Mathlib.Omega.{arith}
-use lib.ListN.{length, getD, set, length-set}
+use lib.ListN.{getD, set}
 use mir.Syntax.{w8}
 use mir.Val.{Fits}
 use Rattle.octets.proofs.Reading.{is-bytes}
@@ -18,16 +18,9 @@ use Rattle.session.proofs.Image.{tested, image-back}
 use Rattle.steps.specs.declared.Answer.{Answer}
 use Rattle.steps.specs.Lies.{Lies}
 use Rattle.steps.specs.Called.{refusedAs, doneAs, lostAnswer, lostSession}
-use Rattle.steps.proofs.Storing.{long, now-stored}
-use Rattle.steps.proofs.Lying.{lies}
-
-unset : (b : Bool) → not b ≡ true → b ≡ false
-unset true e = sym e
-unset false e = refl
-
-set-is : (b : Bool) → not b ≡ false → b ≡ true
-set-is true e = refl
-set-is false e = sym e
+use Rattle.steps.proofs.Tests.{unset, set-is}
+use Rattle.steps.proofs.Storing.{now-stored}
+use Rattle.steps.proofs.Lying.{lies, state-is}
 
 module _ (d : List ℕ) (b : Bool) (e : b ≡ isSession d) (r : Answer) where
   pub lost-wrong : not b ≡ true → r ≡ refusedAs 15 → (r ≡ lostAnswer d) × (d ≡ lostSession d)
@@ -40,21 +33,17 @@ module _ (d : List ℕ) (b : Bool) (e : b ≡ isSession d) (r : Answer) where
     lying : Lies d
     lying = lies d b e h bytes
 
-    state-is : (x : ℕ) → getD d 344 0 ≡ x → sessionAt d .state ≡ stateOf x
-    unfolding sessionAt
-    state-is x p = ap stateOf p
-
     pub lost-waiting : getD d 344 0 ≡ 0 → r ≡ doneAs 9 0 → (r ≡ lostAnswer d) × (d ≡ lostSession d)
     unfolding lost
     lost-waiting w p =
-        let s : sessionAt d .state ≡ Waiting = state-is 0 w in
+        let s : sessionAt d .state ≡ Waiting = state-is d 0 w in
         (p ∙ sym (simp (sym e ∙ set-is b h, s)), sym (simp (sym e ∙ set-is b h, s) (image-back d bytes (tested d (lying .is)))))
 
     pub lost-stored : (getD d 344 0 ≡ 0 → ⊥) → r ≡ doneAs 8 0 → (r ≡ lostAnswer d) × (set (set d 344 0) 345 1 ≡ lostSession d)
     unfolding lost
     lost-stored n p =
         let k = loss-is (getD d 344 0) n in
-        let s : sessionAt d .state ≡ stateOf (getD d 344 0) = state-is (getD d 344 0) refl in (
+        let s : sessionAt d .state ≡ stateOf (getD d 344 0) = state-is d (getD d 344 0) refl in (
           p ∙ sym (simp (sym e ∙ set-is b h) (ap (λ (x : State). doneAs (lossOf x) 0) s ∙ ap (λ (x : ℕ). doneAs x 0) k)),
           now-stored d lying ∙ sym (simp (sym e ∙ set-is b h) (ap sessionImage (ap (λ (x : State). lostIn x (sessionAt d)) s ∙ lost-is (stateOf (getD d 344 0)) k))),
         )

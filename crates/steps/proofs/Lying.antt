@@ -1,7 +1,7 @@
--- The code's test of a session's bytes is the definition's: the spare bytes are looked at one by one. And the entry at a place of the bytes is that
--- of the list. Assumes nothing.
+-- The code's test of a session's bytes is the definition's: the spare bytes are looked at one by one. And the state in the bytes is the session's,
+-- the entry at a place of them that of the list. Assumes nothing.
 use mathlib.Core.Path.{_≡_, sym, ap, ap₂, _∙_}
-use mathlib.Core.Bool.{Bool, true, false, not, _&&_, and-true, and-assoc}
+use mathlib.Core.Bool.{Bool, false, not, _&&_, and-true, and-assoc}
 use mathlib.Core.List.{List}
 use Prim.Native.Nat.{ℕ, zero, suc, _+_, _*_, _≤_, _<_}
 use native.Mathlib.Numerals.{add-one}
@@ -12,9 +12,10 @@ use lib.Seq.{drop-cons}
 use borrow.Author.Tests.{eq-eqb, ne-eqb}
 use Rattle.octets.specs.Bytes.{IsBytes}
 use Rattle.session.specs.Place.{entry, noEntry}
-use Rattle.session.specs.Image.{idAt, entriesAt, areZeros, isSession}
+use Rattle.session.specs.Image.{stateOf, idAt, entriesAt, sessionAt, areZeros, isSession}
 use Rattle.session.proofs.Image.{tested}
 use Rattle.steps.specs.Lies.{Lies}
+use Rattle.steps.proofs.Tests.{set-is}
 
 -- what is known of the spare bytes passed, and those from i on, answer for all of them
 module _ (d : List ℕ) (i : ℕ) (ok all : Bool) (e : ok && areZeros (drop i d) ≡ all) where
@@ -44,14 +45,16 @@ session-short d h = sym (simp (ne-eqb (length d) 368 h))
 
 -- what the test told
 pub lies : (d : List ℕ) (b : Bool) → b ≡ isSession d → not b ≡ false → IsBytes d → Lies d
-lies d true e h bytes = record { is = sym e; bytes = bytes }
-lies d false e h bytes = let z : _≡_ {A = ℕ} 0 1 = cc in absurd (omega arith)
+lies d b e h bytes = record { is = sym e ∙ set-is b h; bytes = bytes }
 
 pub told-long : (d : List ℕ) (b : Bool) → b ≡ isSession d → not b ≡ false → length d ≡ 368
-told-long d true e h = tested d (sym e) .long
-told-long d false e h = let z : _≡_ {A = ℕ} 0 1 = cc in absurd (omega arith)
+told-long d b e h = tested d (sym e ∙ set-is b h) .long
 
--- the entry at a place
+-- the state, and the entry at a place
+pub state-is : (d : List ℕ) (x : ℕ) → getD d 344 0 ≡ x → sessionAt d .state ≡ stateOf x
+unfolding sessionAt
+state-is d x e = ap stateOf e
+
 pub entry-at : (d : List ℕ) (ids kinds n i : ℕ) → i < n → getD (entriesAt d ids kinds n) i noEntry ≡ entry (idAt d (ids + 8 * i)) (getD d (kinds + i) 0)
 unfolding entriesAt
 entry-at d ids kinds zero i h = absurd (omega arith)

@@ -1,7 +1,7 @@
 -- What the code does in an open session is what the definitions say, branch by branch. Assumes nothing.
 use mathlib.Core.Path.{_≡_, refl, sym, ap, _∙_}
-use mathlib.Core.Bool.{Bool, true, false, not, _&&_}
-use mathlib.Core.Logic.{_⊎_, inl, inr, ⊎-elim}
+use mathlib.Core.Bool.{true, false}
+use mathlib.Core.Logic.{⊎-elim}
 use mathlib.Core.List.{List}
 use mathlib.Core.Option.{some}
 use Prim.Native.Nat.{ℕ, _<_}
@@ -11,7 +11,6 @@ use lib.Signed.{mag, leZ}
 use mir.Syntax.{w64}
 use mir.Val.{toZ, ofZ}
 use borrow.Author.Tests.{ne-eqb, eqb-true, eqb-false}
-use Rattle.octets.proofs.Ranges.{true-false}
 use Rattle.octets.specs.Choice.{either}
 use Rattle.names.specs.Names.{commands, placeIn, commandOf}
 use Rattle.message.specs.declared.Message.{Message}
@@ -23,23 +22,16 @@ use Rattle.session.specs.Happened.{isIssued}
 use Rattle.session.specs.Arrive.{Outcome, below, highestOf, withCentre, starts, startAt, whenOpen}
 use Rattle.session.specs.Centre.{beginAt, begins, kindBegins}
 use Rattle.steps.specs.Called.{Called, calledBy}
+use Rattle.steps.proofs.Tests.{unset, set-is, noneOf, none-of, one-of}
 use Rattle.steps.proofs.Knowing.{le-kept}
-
-not-false : (b : Bool) → true ≡ not b → b ≡ false
-not-false true e = e
-not-false false e = refl
-
-not-true : (b : Bool) → false ≡ not b → b ≡ true
-not-true true e = refl
-not-true false e = e
 
 -- a station's start: late, or with a place or none
 module _ (s : Session) (h : Host) (o : Operation) (z x : ℤ) (f : mag z < 0x8000000000000000) (g : mag (highestOf s) < 0x8000000000000000) (e : x ≡ highestOf s) where
   pub start-late : leZ (toZ w64 (ofZ w64 z)) (toZ w64 (ofZ w64 x)) ≡ true → starts s h o z ≡ Outcome.refused 18
-  start-late t = simp (not-false (below (highestOf s) z) (sym t ∙ le-kept z x (highestOf s) f g e))
+  start-late t = simp (unset (below (highestOf s) z) (sym (le-kept z x (highestOf s) f g e) ∙ t))
 
   pub start-timely : leZ (toZ w64 (ofZ w64 z)) (toZ w64 (ofZ w64 x)) ≡ false → starts s h o z ≡ startAt s h o z (freePlace (s .station))
-  start-timely t = simp (not-true (below (highestOf s) z) (sym t ∙ le-kept z x (highestOf s) f g e))
+  start-timely t = simp (set-is (below (highestOf s) z) (sym (le-kept z x (highestOf s) f g e) ∙ t))
 
 -- what a command does in an open session, found by the command's number
 module _ (s : Session) (h : Host) (z : ℤ) (c : ℕ) where
@@ -49,24 +41,7 @@ module _ (s : Session) (h : Host) (z : ℤ) (c : ℕ) where
   no-command a b d e f g i j k l =
       simp (ne-eqb 9 c (λ p. a (sym p)), ne-eqb 3 c (λ p. b (sym p)), ne-eqb 7 c (λ p. d (sym p)), ne-eqb 11 c (λ p. e (sym p)), ne-eqb 14 c (λ p. f (sym p)), ne-eqb 20 c (λ p. g (sym p)), ne-eqb 10 c (λ p. i (sym p)), ne-eqb 2 c (λ p. j (sym p)), ne-eqb 15 c (λ p. k (sym p)), ne-eqb 17 c (λ p. l (sym p)))
 
--- and what the centre starts: none of four, or one of them
-abbrev noneOf : Bool → Bool → Bool → Bool → Bool
-noneOf w x y z = ((not w && not x) && not y) && not z
-
-none-of : (w x y z : Bool) → noneOf w x y z ≡ true → (w ≡ false) × (x ≡ false) × (y ≡ false) × (z ≡ false)
-none-of false false false false e = (refl, refl, refl, refl)
-none-of false false false true e = true-false (sym e)
-none-of false false true z e = true-false (sym e)
-none-of false true y z e = true-false (sym e)
-none-of true x y z e = true-false (sym e)
-
-one-of : (w x y z : Bool) → noneOf w x y z ≡ false → (w ≡ true) ⊎ ((x ≡ true) ⊎ ((y ≡ true) ⊎ (z ≡ true)))
-one-of true x y z e = inl refl
-one-of false true y z e = inr (inl refl)
-one-of false false true z e = inr (inr (inl refl))
-one-of false false false true e = inr (inr (inr refl))
-one-of false false false false e = true-false e
-
+-- and what the centre starts: none of four commands, or one of them
 module _ (s : Session) (m : Message) (c : ℕ) where
   unlike : (k : ℕ) → eqb c k ≡ false → eqb k c ≡ false
   unlike k e = ne-eqb k c (λ p. eqb-false c k e (sym p))

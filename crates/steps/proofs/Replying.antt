@@ -1,6 +1,6 @@
 -- The messages that a session sends are in their ranges: the replies are, whatever arrived, since their IDs, UUIDs and signs have their types'
 -- widths, and what the centre starts is judged before. So the writing of a step's message can be refused with 20 alone. Assumes nothing.
-use mathlib.Core.Path.{_≡_, refl}
+use mathlib.Core.Path.{_≡_}
 use mathlib.Core.Bool.{Bool, true, false, _&&_}
 use mathlib.Core.List.{List, [], _∷_, append-nil}
 use mathlib.Core.Option.{Option, some, none}
@@ -29,6 +29,7 @@ use Rattle.session.specs.Place.{sameId, freePlace, placeOf}
 use Rattle.session.specs.Kinds.{Operation, stationStarts, centreStarts, operationBy}
 use Rattle.session.specs.Arrive.{Outcome, below, highestOf, lowestOf, bareOf, detRspOf, conRspOf, rspOf, resumes, connects, inWaiting, inConnecting, starts, startAt, completeAt, respondAt, orElse, whenOpen, inState, arrives}
 use Rattle.session.specs.Centre.{oneBelow, lastId, underId, beginAt, begins, kindBegins, ifOpen, centreBegins}
+use Rattle.session.proofs.Cases.{by-test, by-result, by-choice}
 
 signed-in : (z : ℤ) → mag z < 0x8000000000000000 → inRange 0x8000000000000000 0x7FFFFFFFFFFFFFFF z ≡ true
 signed-in (pos n) h = le-leb n 0x7FFFFFFFFFFFFFFF (omega arith)
@@ -53,10 +54,6 @@ abbrev pub Fitting : Outcome → Type 0
 Fitting (Outcome.refused n) = Unit {0}
 Fitting (Outcome.silent w t) = Unit {0}
 Fitting (Outcome.replies w t m) = fits m ≡ true
-
-by-test : (b : Bool) (x y : Outcome) → Fitting x → Fitting y → Fitting (either b (λ _. x) (λ _. y))
-by-test true x y p q = p
-by-test false x y p q = q
 
 -- a property of all operations of a list holds for the one that is found
 abbrev Each : (Operation → Type 0) → List Operation → Type 0
@@ -83,17 +80,17 @@ pub record Able (s : Session) (m : Message) (h : Host) : Type 0 where
 
 module _ (s : Session) (m : Message) (h : Host) (a : Able s m h) where
   at-con : Fitting (connects s m h)
-  at-con = by-test (resumes s m) _ _ (con-rsp-fits h true (s .snScUuid) (a .eui) (a .centre .0) (a .centre .1)) (con-rsp-fits h false (h .uuid) (a .eui) (a .uuid .0) (a .uuid .1))
+  at-con = by-test Fitting (resumes s m) _ _ (con-rsp-fits h true (s .snScUuid) (a .eui) (a .centre .0) (a .centre .1)) (con-rsp-fits h false (h .uuid) (a .eui) (a .uuid .0) (a .uuid .1))
 
   waiting : Fitting (inWaiting s m h)
   unfolding inWaiting
   waiting =
-      by-test (eqb (m .command) (commandOf (bytes "con"))) _ _
-      (by-test (sameId (m .«op_id») (pos 0)) _ _ (by-test (eqb (m .version .major) 1 && eqb (m .version .minor) 0) _ _ at-con tt) tt) tt
+      by-test Fitting (eqb (m .command) (commandOf (bytes "con"))) _ _
+      (by-test Fitting (sameId (m .«op_id») (pos 0)) _ _ (by-test Fitting (eqb (m .version .major) 1 && eqb (m .version .minor) 0) _ _ at-con tt) tt) tt
 
   connecting : Fitting (inConnecting s m)
   unfolding inConnecting
-  connecting = by-test (eqb (m .command) (commandOf (bytes "conCmp")) && sameId (m .«op_id») (pos 0)) _ _ tt tt
+  connecting = by-test Fitting (eqb (m .command) (commandOf (bytes "conCmp")) && sameId (m .«op_id») (pos 0)) _ _ tt tt
 
   at-start : (o : Operation) (p : Option ℕ) → fits (rspOf h (o .rsp) (m .«op_id»)) ≡ true → Fitting (startAt s h o (m .«op_id») p)
   at-start o none e = tt
@@ -108,7 +105,7 @@ module _ (s : Session) (m : Message) (h : Host) (a : Able s m h) where
   at-rsp o (some i) e = e
 
   started : (o : Operation) → fits (rspOf h (o .rsp) (m .«op_id»)) ≡ true → Fitting (starts s h o (m .«op_id»))
-  started o e = by-test (below (highestOf s) (m .«op_id»)) _ _ (at-start o (freePlace (s .station)) e) tt
+  started o e = by-test Fitting (below (highestOf s) (m .«op_id»)) _ _ (at-start o (freePlace (s .station)) e) tt
 
   answered : (o : Operation) → fits (bareOf (o .cmp) (m .«op_id»)) ≡ true → Fitting (respondAt s o (m .«op_id») (placeOf (m .«op_id») (o .start) (s .centre)))
   answered o e = at-rsp o (placeOf (m .«op_id») (o .start) (s .centre)) e
@@ -126,15 +123,12 @@ module _ (s : Session) (m : Message) (h : Host) (a : Able s m h) where
   all-answered =
       (answered _ (bare 11 (omega arith) (omega arith)), (answered _ (bare 13 (omega arith) (omega arith)), (answered _ (bare 16 (omega arith) (omega arith)), (answered _ (bare 18 (omega arith) (omega arith)), tt))))
 
-  all-completed : (l : List Operation) → Each (λ o. Fitting (completeAt s (placeOf (m .«op_id») (o .start) (s .station)))) l
-  all-completed [] = tt
-  all-completed (o ∷ os) = (at-cmp (placeOf (m .«op_id») (o .start) (s .station)), all-completed os)
-
   operating : (c : ℕ) → Fitting (whenOpen s h c (m .«op_id»))
   unfolding whenOpen
   operating c =
       by-operation _ (λ o. o .start) _ c
-      (by-operation _ (λ o. o .cmp) _ c (by-operation _ (λ o. o .rsp) _ c tt centreStarts all-answered) stationStarts (all-completed stationStarts))
+      (by-choice Fitting (operationBy (λ o. o .cmp) stationStarts c) _ _ (λ o. at-cmp (placeOf (m .«op_id») (o .start) (s .station)))
+      (by-operation _ (λ o. o .rsp) _ c tt centreStarts all-answered))
       stationStarts all-started
 
   in-state : (x : State) → Fitting (inState x s m h)
@@ -144,29 +138,21 @@ module _ (s : Session) (m : Message) (h : Host) (a : Able s m h) where
 
   pub replies-fit : Fitting (arrives s m h)
   unfolding arrives
-  replies-fit = by-test (fits m) _ _ (in-state (s .state)) tt
+  replies-fit = by-test Fitting (fits m) _ _ (in-state (s .state)) tt
 
 -- what the centre starts is judged before it is written
-judged : (w : ℕ) (t : Session) (m : Message) (b : Bool) → fits m ≡ b → Fitting (either b (λ _. Outcome.replies w t m) (λ _. Outcome.refused 15))
-judged w t m true e = e
-judged w t m false e = tt
-
 module _ (s : Session) (m : Message) where
   at-begin : (o : Operation) (z : ℤ) (u : Message) (p : Option ℕ) → Fitting (beginAt s o z u p)
   at-begin o z u none = tt
-  at-begin o z u (some i) = judged _ _ u (fits u) refl
+  at-begin o z u (some i) = by-result Fitting (fits u) _ _ (λ e. e) (λ e. tt)
 
   begun : (o : Operation) → Fitting (begins s o m)
-  begun o = by-test (sameId (lowestOf s) lastId) _ _ tt (at-begin o (oneBelow (lowestOf s)) (underId (oneBelow (lowestOf s)) m) (freePlace (s .centre)))
-
-  all-begun : (l : List Operation) → Each (λ o. Fitting (begins s o m)) l
-  all-begun [] = tt
-  all-begun (o ∷ os) = (begun o, all-begun os)
+  begun o = by-test Fitting (sameId (lowestOf s) lastId) _ _ tt (at-begin o (oneBelow (lowestOf s)) (underId (oneBelow (lowestOf s)) m) (freePlace (s .centre)))
 
   by-state : (x : State) → Fitting (ifOpen x (λ _. kindBegins s (m .command) m))
   by-state Waiting = tt
   by-state Connecting = tt
-  by-state Open = by-operation _ (λ o. o .start) _ (m .command) tt centreStarts (all-begun centreStarts)
+  by-state Open = by-choice Fitting (operationBy (λ o. o .start) centreStarts (m .command)) _ _ begun tt
 
   pub begins-fit : Fitting (centreBegins s m)
   unfolding centreBegins

@@ -19,6 +19,7 @@ use Rattle.session.specs.Session.{Entry}
 use Rattle.session.specs.Place.{sameId, isFree, matches, entry, noEntry, firstFrom, freePlace, placeOf, placeNumber}
 use Rattle.session.specs.Image.{idAt, entriesAt}
 use Rattle.session.proofs.Image.{entries-long}
+use Rattle.steps.proofs.Tests.{and-assoc}
 use Rattle.steps.proofs.Lying.{entry-at}
 use Rattle.steps.proofs.Knowing.{kept}
 
@@ -35,13 +36,9 @@ same-bits (negsuc a) (negsuc b) f g = same-test (2 ^ 64 - suc a) (2 ^ 64 - suc b
 pub zero-bits : (x : ℤ) → mag x < 0x8000000000000000 → eqb (ofZ w64 x) 0 ≡ sameId x (pos 0)
 zero-bits x h = same-bits x (pos 0) h (omega arith)
 
-both : (a b c : Bool) → (a && b) && c ≡ a && (b && c)
-both true b c = refl
-both false b c = refl
-
 pub match-is : (e : Entry) (z : ℤ) (k : ℕ) (b : Bool) → b ≡ isFree e → mag (e .id) < 0x8000000000000000 → mag z < 0x8000000000000000
     → (not b && eqb (ofZ w64 (e .id)) (ofZ w64 z)) && eqb (e .kind) k ≡ matches z k e
-match-is e z k b p f g = rw (p, same-bits (e .id) z f g) (both (not (isFree e)) (sameId (e .id) z) (eqb (e .kind) k))
+match-is e z k b p f g = rw (p, same-bits (e .id) z f g) (and-assoc (not (isFree e)) (sameId (e .id) z) (eqb (e .kind) k))
 
 -- one side's places from i on
 module _ (f : Entry → Bool) (t : List Entry) (i : ℕ) where

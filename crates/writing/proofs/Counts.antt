@@ -94,9 +94,9 @@ module _ (m : Message) where
   unfolding countBy lists listIn rowsOf partIn
   con-count a b c d e f g h = omega (arith, counted (fieldsOf 0) (saysOf m), versioned, placed, station, centre)
 
-  pub con-rsp-count : (a : ℕ) → a ≡ oneIf (m .version .here) → 5 + a ≡ countBy 1 m
+  pub con-rsp-count : 5 + oneIf (m .version .here) ≡ countBy 1 m
   unfolding countBy lists listIn rowsOf partIn
-  con-rsp-count a e = omega (arith, counted (fieldsOf 1) (saysOf m), versioned)
+  con-rsp-count = omega (arith, counted (fieldsOf 1) (saysOf m), versioned)
 
   pub status-count : (a b c d x : ℕ) → a ≡ oneIf (m .«geo_location» .here) → b ≡ oneIf (m .uptime .here) → c ≡ oneIf (m .temp .here) → d ≡ oneIf (m .«cpu_load» .here) → x ≡ oneIf (m .«mem_load» .here)
       → 6 + a + b + c + d + x ≡ countBy 2 m

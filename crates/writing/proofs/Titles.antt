@@ -64,7 +64,7 @@ module _ (m : Message) where
 
   con-rsp-is : conRspParts (m .«op_id») (m .version) (m .«sc_eui») (m .«sn_resume») (m .«sn_sc_uuid») ≡ payloadBy 1 m
   unfolding conRspParts payloadBy commands nameAt
-  con-rsp-is = ap₂ (λ (n : ℕ) (ps : List (List ℕ)). titleParts n (bytes "conRsp") ++ (opIdParts (m .«op_id») ++ ps)) (con-rsp-count m _ refl) con-rsp-fields
+  con-rsp-is = ap₂ (λ (n : ℕ) (ps : List (List ℕ)). titleParts n (bytes "conRsp") ++ (opIdParts (m .«op_id») ++ ps)) (con-rsp-count m) con-rsp-fields
 
   det-rsp-is : detRspParts (m .«op_id») (m .sign) ≡ payloadBy 4 m
   unfolding detRspParts payloadBy fieldsFrom partsFrom pairIf lists listIn rowsOf partIn kinds kindIn commands nameAt

@@ -45,7 +45,7 @@ pub fn write(m: Message, room: &mut [u8]) -> Written
     Written::Whole(end)
 }
 
-// What a session sends of its own, from the fields alone: no record is made, and none is judged.
+// What a session sends of its own, from the fields alone: no record is made, and none is judged. 144 bytes hold each such frame.
 pub fn write_bare(command: u8, id: i64, room: &mut [u8]) -> Written
     requires { ⌜ (7 < command) × (command < 21) ⌝ }
     ensures { λ r. ⌜ EachBare command id (IsWritten (now (room .entry)) r (now (room .exit))) ⌝ }

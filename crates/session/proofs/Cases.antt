@@ -1,0 +1,20 @@
+-- A property of outcomes, by the cases that make one: a test, a test whose result is of use, and the operation that is found or not. Assumes nothing.
+use mathlib.Core.Path.{_≡_, refl}
+use mathlib.Core.Bool.{Bool, true, false}
+use mathlib.Core.Option.{Option, some, none}
+use Rattle.octets.specs.Choice.{either}
+use Rattle.session.specs.Kinds.{Operation}
+use Rattle.session.specs.Arrive.{Outcome, orElse}
+
+module _ (P : Outcome → Type 0) where
+  pub by-test : (b : Bool) (x y : Outcome) → P x → P y → P (either b (λ _. x) (λ _. y))
+  by-test true x y p q = p
+  by-test false x y p q = q
+
+  pub by-result : (b : Bool) (x y : Outcome) → (b ≡ true → P x) → (b ≡ false → P y) → P (either b (λ _. x) (λ _. y))
+  by-result true x y p q = p refl
+  by-result false x y p q = q refl
+
+  pub by-choice : (c : Option Operation) (f : Operation → Outcome) (x : Outcome) → ((o : Operation) → P (f o)) → P x → P (orElse c f (λ _. x))
+  by-choice none f x p q = q
+  by-choice (some o) f x p q = p o
