@@ -1,9 +1,9 @@
 -- How many pairs are written: as many fields as are said, so the mandatory ones and the optional ones that are there. Assumes nothing.
-use mathlib.Core.Path.{_≡_, refl, sym, ap, subst, _∙_}
+use mathlib.Core.Path.{_≡_, refl}
 use mathlib.Core.Bool.{Bool, true, false, not}
 use mathlib.Core.List.{List, [], _∷_}
 use mathlib.Core.Option.{Option, some, none}
-use Prim.Native.Nat.{ℕ, zero, suc, _+_, _≤_, _<_}
+use Prim.Native.Nat.{ℕ, _+_}
 use native.Mathlib.Omega.{arith}
 use lib.Dec.{eqb}
 use lib.IntN.{pos}
@@ -11,7 +11,7 @@ use lib.ListN.{take}
 use Rattle.octets.specs.Choice.{either}
 use Rattle.element.specs.Tree.{pairsOf}
 use Rattle.field.specs.Kind.{Value}
-use Rattle.message.specs.Fields.{Field, headed, lists, listIn, fieldsOf}
+use Rattle.message.specs.Fields.{Field, lists, listIn, fieldsOf}
 use Rattle.message.specs.declared.Message.{Message}
 use Rattle.names.specs.Names.{bytes}
 use Rattle.saying.specs.Says.{placeValue, rowsOf, partIn, saysOf}
