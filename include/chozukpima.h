@@ -7,8 +7,8 @@
  * 15 without a message and 3 without a payload, chz_write, chz_arrive, chz_begin and chz_lost 15; a table of five such columns
  * has no rows, so chz_find, chz_withdraw and chz_uplink answer 21 and chz_enrol 23.
  *
- * No answer depends on the floating point mode (MXCSR) that the host runs in. Nothing is allocated. 10 kB of stack are enough for
- * every call; measured: chz_arrive and chz_begin 7.1 kB, chz_write 6.0, chz_read 3.9, the others below 2. */
+ * No answer depends on the floating point mode (MXCSR) that the host runs in. Nothing is allocated. 6 kB of stack are enough for
+ * every call; measured: chz_write and chz_read 3.5 kB, chz_begin 3.3, the others below 2. */
 #ifndef CHOZUKPIMA_H
 #define CHOZUKPIMA_H
 
