@@ -21,7 +21,6 @@ use record::Con;
 use record::Message;
 use writer::Written;
 use writer::put;
-use writer::put;
 ghost use mathlib.Core.Path.{_≡_};
 ghost use mathlib.Core.Bool.{true, false, not, _||_};
 ghost use mathlib.Core.List.{List, []};

@@ -12,7 +12,6 @@ use record::Message;
 use record::command_in;
 use writer::Written;
 use writer::put;
-use writer::put;
 ghost use mathlib.Core.Path.{_≡_};
 ghost use Rattle.record.specs.Record.{commandIn};
 ghost use Rattle.session.specs.Place.{freePlace};

@@ -16,7 +16,6 @@ use crate::stored::free_station;
 use crate::stored::take_station;
 use writer::Written;
 use writer::put;
-use writer::put;
 ghost use mathlib.Core.Path.{_≡_};
 ghost use mathlib.Core.Bool.{true};
 ghost use mathlib.Core.List.{List};
