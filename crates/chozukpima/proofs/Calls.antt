@@ -18,32 +18,33 @@ use Rattle.steps.specs.Called.{Called, called, arriveOn, beginOn}
 use Rattle.layout.specs.Image.{messageSize, messageImage}
 use Rattle.layout.specs.Taken.{messageAt}
 use Rattle.chozukpima.specs.Packed.{packed, refusedWith}
-use Rattle.chozukpima.specs.Messages.{toldAnswer, imageAfter, Got, got, ReadInto, Put, put, putBy, writeReturns}
+use Rattle.chozukpima.specs.Messages.{Put, put, toldInto, got, ReadInto, putBy, writeReturns}
 use Rattle.chozukpima.specs.Sessions.{Returned, returned, stepAnswer, arriveReturns, beginReturns}
 
 -- what is told of a payload
 module _ (t : Told) (d : List ℕ) (r : ℕ) where
-  pub told-refused : (t .refusal ≡ 0 → ⊥) → r ≡ packed (t .refusal) 0 (t .place) → (r ≡ toldAnswer t) × (d ≡ imageAfter t d)
-  told-refused h e = (e ∙ sym (simp (ne-eqb (t .refusal) 0 h)), sym (simp (ne-eqb (t .refusal) 0 h)))
+  pub told-refused : (t .refusal ≡ 0 → ⊥) → r ≡ packed (t .refusal) 0 (t .place) → _≡_ {A = Put} (put r d) (toldInto t d)
+  unfolding toldInto
+  told-refused h e = ap (λ n. put n d) e ∙ sym (simp (ne-eqb (t .refusal) 0 h))
 
   pub told-whole : (after : List ℕ) → t .refusal ≡ 0 → length d ≡ messageSize → r ≡ packed 0 0 (t .count)
-      → after ≡ either (eqb (length d) messageSize) (λ _. messageImage (t .message)) (λ _. d) → (r ≡ toldAnswer t) × (after ≡ imageAfter t d)
+      → after ≡ either (eqb (length d) messageSize) (λ _. messageImage (t .message)) (λ _. d) → _≡_ {A = Put} (put r after) (toldInto t d)
+  unfolding toldInto
   told-whole after h l e p =
       let q : either (eqb (length d) messageSize) (λ _. messageImage (t .message)) (λ _. d) ≡ messageImage (t .message) = simp (eq-eqb (length d) messageSize l) in
-      (e ∙ sym (simp (eq-eqb (t .refusal) 0 h)), p ∙ (q ∙ sym (simp (eq-eqb (t .refusal) 0 h))))
+      (λ i. put (e i) ((p ∙ q) i)) ∙ sym (simp (eq-eqb (t .refusal) 0 h))
 
 module _ (p m d : List ℕ) (r : ℕ) where
-  pub read-short : (length m ≡ messageSize → ⊥) → r ≡ refusedWith 15 → ReadInto p m d (got r m d)
-  read-short h e = record { long = λ _. ap (λ n. got n m d) e; meant = λ l a n. absurd (h l) }
+  pub read-short : (length m ≡ messageSize → ⊥) → r ≡ refusedWith 15 → ReadInto p m d (got (put r m) d)
+  read-short h e = record { long = λ _. ap (λ n. got (put n m) d) e; meant = λ l a n. absurd (h l) }
 
-  pub read-whole : (after lent : List ℕ) (t : Told) → length m ≡ messageSize → Meant p d (record { told = t; lent = lent }) → (r ≡ toldAnswer t) × (after ≡ imageAfter t m)
-      → ReadInto p m d (got r after lent)
+  pub read-whole : (after lent : List ℕ) (t : Told) → length m ≡ messageSize → Meant p d (record { told = t; lent = lent }) → _≡_ {A = Put} (put r after) (toldInto t m)
+      → ReadInto p m d (got (put r after) lent)
   read-whole after lent t l n q =
       let a : Meaning = record { told = t; lent = lent } in
       record {
         long = λ h. absurd (h l);
-        meant = λ _ b k.
-            (λ i. got (q .0 i) (q .1 i) lent) ∙ ap (λ (x : Meaning). got (toldAnswer (x .told)) (imageAfter (x .told) m) (x .lent)) (one-answer p d a b n k);
+        meant = λ _ b k. ap (λ x. got x lent) q ∙ ap (λ (x : Meaning). got (toldInto (x .told) m) (x .lent)) (one-answer p d a b n k);
       }
 
 module _ (w : Written) (r k : ℕ) where

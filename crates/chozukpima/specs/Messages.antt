@@ -12,13 +12,17 @@ use Rattle.layout.specs.Image.{messageSize, messageImage}
 use Rattle.layout.specs.Taken.{messageAt}
 use Rattle.chozukpima.specs.Packed.{packed, refusedWith}
 
--- the count of elements, or the refusal with its place
-abbrev pub toldAnswer : Told → ℕ
-toldAnswer t = either (eqb (t .refusal) 0) (λ _. packed 0 0 (t .count)) (λ _. packed (t .refusal) 0 (t .place))
+-- an answer, and the bytes that the call may set afterwards: a message's, or the room's
+pub record Put : Type 0 where
+  pub answer : ℕ
+  pub bytes : List ℕ
 
--- the record's image, or as it was
-abbrev pub imageAfter : Told → List ℕ → List ℕ
-imageAfter t d = either (eqb (t .refusal) 0) (λ _. messageImage (t .message)) (λ _. d)
+abbrev pub put : ℕ → List ℕ → Put
+put n d = record { answer = n; bytes = d }
+
+-- the count of elements and the record's image; or the refusal with its place, and the message as it was
+unfoldable pub toldInto : Told → List ℕ → Put
+toldInto t m = either (eqb (t .refusal) 0) (λ _. put (packed 0 0 (t .count)) (messageImage (t .message))) (λ _. put (packed (t .refusal) 0 (t .place)) m)
 
 -- an answer, and the message and its data afterwards
 pub record Got : Type 0 where
@@ -26,21 +30,13 @@ pub record Got : Type 0 where
   pub message : List ℕ
   pub lent : List ℕ
 
-abbrev pub got : ℕ → List ℕ → List ℕ → Got
-got n m d = record { answer = n; message = m; lent = d }
+abbrev pub got : Put → List ℕ → Got
+got p d = record { answer = p .answer; message = p .bytes; lent = d }
 
 -- a message of another length is 15 before all others; else what the payload means is answered
 pub record ReadInto (payload m d : List ℕ) (r : Got) : Type 0 where
-  pub long : (length m ≡ messageSize → ⊥) → r ≡ got (refusedWith 15) m d
-  pub meant : length m ≡ messageSize → (a : Answer) → Meant payload d a → r ≡ got (toldAnswer (a .told)) (imageAfter (a .told) m) (a .lent)
-
--- an answer, and the room afterwards
-pub record Put : Type 0 where
-  pub answer : ℕ
-  pub room : List ℕ
-
-abbrev pub put : ℕ → List ℕ → Put
-put n room = record { answer = n; room = room }
+  pub long : (length m ≡ messageSize → ⊥) → r ≡ got (put (refusedWith 15) m) d
+  pub meant : length m ≡ messageSize → (a : Answer) → Meant payload d a → r ≡ got (toldInto (a .told) m) (a .lent)
 
 abbrev pub putBy : Sent → Put
 putBy s = put (packed (refusalOf (s .answer)) 0 (lengthOf (s .answer))) (s .room)

@@ -7,14 +7,14 @@ ghost use mathlib.Core.Path.{_≡_};
 ghost use lib.ListN.{length};
 ghost use Rattle.writer.specs.Write.{refusalOf, lengthOf};
 ghost use Rattle.layout.specs.Image.{messageSize};
-ghost use Rattle.chozukpima.specs.Messages.{Got, got, ReadInto, toldAnswer, imageAfter, Put, put, writeReturns};
+ghost use Rattle.chozukpima.specs.Messages.{Put, put, toldInto, got, ReadInto, writeReturns};
 ghost use Rattle.chozukpima.specs.Packed.{packed};
 
 // A payload into a message and its data: how many elements it has; 3 to 15, with the place for 4 to 10. A message of another length, or too few
 // bytes for data, are 15 first.
 #[no_mangle]
 pub extern "C" fn chz_read(payload: &[u8], message: &mut [u8], lent: &mut [u8]) -> u64
-    ensures { λ r. ⌜ ReadInto (now (payload .entry)) (now (message .entry)) (now (lent .entry)) (got r (now (message .exit)) (now (lent .exit))) ⌝ }
+    ensures { λ r. ⌜ ReadInto (now (payload .entry)) (now (message .entry)) (now (lent .entry)) (got (put r (now (message .exit))) (now (lent .exit))) ⌝ }
 {
     if message.len() != layout::SIZE {
         return refuse(15);
@@ -24,7 +24,7 @@ pub extern "C" fn chz_read(payload: &[u8], message: &mut [u8], lent: &mut [u8]) 
 
 fn tell(t: Told, message: &mut [u8]) -> u64
     requires { ⌜ length (now message) ≡ messageSize ⌝ }
-    ensures { λ r. ⌜ (r ≡ toldAnswer t) × (now (message .exit) ≡ imageAfter t (now (message .entry))) ⌝ }
+    ensures { λ r. ⌜ _≡_ {A = Put} (put r (now (message .exit))) (toldInto t (now (message .entry))) ⌝ }
 {
     if t.refusal != 0 {
         return pack(t.refusal, 0, t.place);

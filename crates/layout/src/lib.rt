@@ -26,6 +26,9 @@ ghost use Rattle.octets.specs.Choice.{either};
 ghost use Rattle.layout.specs.Image.{headLies, laid, messageSize, zeros, messageImage};
 ghost use Rattle.layout.specs.Taken.{messageAt};
 
+// How many bytes a record takes.
+pub const SIZE: usize = 104;
+
 // The record of an image.
 pub fn message_in(d: &[u8]) -> Message
     ensures { λ r. ⌜ r ≡ messageAt (now (d .entry)) ⌝ }
@@ -48,7 +51,7 @@ fn clear(d: &mut [u8])
     ensures { λ _. ⌜ now (d .exit) ≡ zeros ⌝ }
 {
     let mut i: usize = 0;
-    while i < 104 {
+    while i < SIZE {
         d[i] = 0;
         i += 1;
     }
@@ -111,7 +114,7 @@ fn put_all(d: &mut [u8], m: Message)
 pub fn put_message(image: &mut [u8], m: Message)
     ensures { λ _. ⌜ now (image .exit) ≡ either (eqb (length (now (image .entry))) messageSize) (λ _. messageImage m) (λ _. now (image .entry)) ⌝ }
 {
-    if image.len() == 104 {
+    if image.len() == SIZE {
         put_all(image, m);
     }
 }
