@@ -15,24 +15,32 @@ typedef bench_rounds *bench_case(const char *what, const char *name, unsigned si
 bench_case reads_case, writes_case, tables_case, sessions_case, streams_case;
 
 /* The calls by their shapes, so that an empty one can stand in for them. */
-typedef uint64_t call_in_out(const uint8_t *in, size_t in_len, uint8_t *out, size_t out_len);
+typedef uint64_t call_read(const uint8_t *payload, size_t payload_len, uint8_t *message, size_t message_len, uint8_t *data,
+                           size_t data_len);
+typedef uint64_t call_write(const uint8_t *message, size_t message_len, const uint8_t *data, size_t data_len, uint8_t *room,
+                            size_t room_len);
 typedef uint64_t call_frame(const uint8_t *bytes, size_t bytes_len);
 #define UPLINK_COLUMNS                                                                                                     \
     const uint8_t *used, size_t used_len, const uint64_t *eui, size_t eui_len, const uint16_t *sh_addr, size_t sh_addr_len, \
         uint32_t *last, size_t last_len, uint64_t *heard, size_t heard_len
 typedef uint64_t call_uplink(UPLINK_COLUMNS, uint64_t meter, uint32_t counter, uint64_t station);
-typedef uint64_t call_arrive(uint8_t *session, size_t session_len, const uint8_t *message, size_t message_len, uint64_t sc_eui,
-                             const uint8_t *uuid, size_t uuid_len, const uint8_t *sign, size_t sign_len, uint8_t *room,
-                             size_t room_len);
-typedef uint64_t call_begin(uint8_t *session, size_t session_len, const uint8_t *message, size_t message_len, uint8_t *room,
-                            size_t room_len);
+typedef uint64_t call_arrive(uint8_t *session, size_t session_len, const uint8_t *message, size_t message_len, const uint8_t *data,
+                             size_t data_len, uint64_t sc_eui, const uint8_t *uuid, size_t uuid_len, const uint8_t *sign,
+                             size_t sign_len, uint8_t *room, size_t room_len);
+typedef uint64_t call_begin(uint8_t *session, size_t session_len, const uint8_t *message, size_t message_len, const uint8_t *data,
+                            size_t data_len, uint8_t *room, size_t room_len);
 typedef uint64_t call_lost(uint8_t *session, size_t session_len);
-call_in_out empty_in_out;
+call_read empty_read;
+call_write empty_write;
 call_frame empty_frame;
 call_uplink empty_uplink;
 call_arrive empty_arrive;
 call_begin empty_begin;
 call_lost empty_lost;
+
+/* A message as the calls take it: its bytes in front of the data, and the data. */
+#define IMAGE_IN(m) (const uint8_t *)&(m), CHZ_MESSAGE, (m).data, CHZ_DATA
+#define IMAGE_OUT(m) (uint8_t *)&(m), CHZ_MESSAGE, (m).data, CHZ_DATA
 
 /* The meter table. */
 #define ROWS_MOST 38000

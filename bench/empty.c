@@ -1,9 +1,15 @@
 /* Calls that do nothing, in the shapes of those that are counted. */
 #include "bench.h"
 
-uint64_t empty_in_out(const uint8_t *in, size_t in_len, uint8_t *out, size_t out_len)
+uint64_t empty_read(const uint8_t *payload, size_t payload_len, uint8_t *message, size_t message_len, uint8_t *data, size_t data_len)
 {
-    (void)in, (void)in_len, (void)out, (void)out_len;
+    (void)payload, (void)payload_len, (void)message, (void)message_len, (void)data, (void)data_len;
+    return 0;
+}
+
+uint64_t empty_write(const uint8_t *message, size_t message_len, const uint8_t *data, size_t data_len, uint8_t *room, size_t room_len)
+{
+    (void)message, (void)message_len, (void)data, (void)data_len, (void)room, (void)room_len;
     return 0;
 }
 
@@ -20,17 +26,19 @@ uint64_t empty_uplink(UPLINK_COLUMNS, uint64_t meter, uint32_t counter, uint64_t
     return 0;
 }
 
-uint64_t empty_arrive(uint8_t *session, size_t session_len, const uint8_t *message, size_t message_len, uint64_t sc_eui,
-                      const uint8_t *uuid, size_t uuid_len, const uint8_t *sign, size_t sign_len, uint8_t *room, size_t room_len)
+uint64_t empty_arrive(uint8_t *session, size_t session_len, const uint8_t *message, size_t message_len, const uint8_t *data,
+                      size_t data_len, uint64_t sc_eui, const uint8_t *uuid, size_t uuid_len, const uint8_t *sign, size_t sign_len,
+                      uint8_t *room, size_t room_len)
 {
-    (void)session, (void)session_len, (void)message, (void)message_len, (void)sc_eui, (void)uuid, (void)uuid_len;
-    (void)sign, (void)sign_len, (void)room, (void)room_len;
+    (void)session, (void)session_len, (void)message, (void)message_len, (void)data, (void)data_len, (void)sc_eui;
+    (void)uuid, (void)uuid_len, (void)sign, (void)sign_len, (void)room, (void)room_len;
     return 0;
 }
 
-uint64_t empty_begin(uint8_t *session, size_t session_len, const uint8_t *message, size_t message_len, uint8_t *room, size_t room_len)
+uint64_t empty_begin(uint8_t *session, size_t session_len, const uint8_t *message, size_t message_len, const uint8_t *data,
+                     size_t data_len, uint8_t *room, size_t room_len)
 {
-    (void)session, (void)session_len, (void)message, (void)message_len, (void)room, (void)room_len;
+    (void)session, (void)session_len, (void)message, (void)message_len, (void)data, (void)data_len, (void)room, (void)room_len;
     return 0;
 }
 

@@ -21,55 +21,59 @@ void head_size(uint8_t *frame, size_t payload_len)
 
 static void fill_con(chz_message *m)
 {
+    chz_con *c = &m->con;
     m->command = CHZ_CON;
     m->op_id = 0;
-    m->has_version = m->has_geo_location = m->bidi = 1;
-    m->version_major = 1;
-    m->bs_eui = 0x70B3D5FFFE00A000;
-    m->latitude = 52.5;
-    m->longitude = 13.25;
-    m->altitude = 34;
-    for (int i = 0; i < 16; i++) m->sn_bs_uuid[i] = (uint8_t)(17 * i);
-    m->has_sn_bs_op_id = m->has_sn_sc_op_id = 1;
-    m->sn_bs_op_id = 300;
-    m->sn_sc_op_id = -40;
+    c->has_version = c->has_geo_location = c->bidi = 1;
+    c->version_major = 1;
+    c->bs_eui = 0x70B3D5FFFE00A000;
+    c->latitude = 52.5;
+    c->longitude = 13.25;
+    c->altitude = 34;
+    for (int i = 0; i < 16; i++) c->sn_bs_uuid[i] = (uint8_t)(17 * i);
+    c->has_sn_bs_op_id = c->has_sn_sc_op_id = 1;
+    c->sn_bs_op_id = 300;
+    c->sn_sc_op_id = -40;
 }
 
 static void fill_con_rsp(chz_message *m)
 {
+    chz_con_rsp *c = &m->con_rsp;
     m->command = CHZ_CON_RSP;
     m->op_id = 0;
-    m->has_version = m->sn_resume = 1;
-    m->version_major = 1;
-    m->sc_eui = 0x70B3D5FFFE000001;
-    for (int i = 0; i < 16; i++) m->sn_sc_uuid[i] = (uint8_t)(13 * i);
+    c->has_version = c->sn_resume = 1;
+    c->version_major = 1;
+    c->sc_eui = 0x70B3D5FFFE000001;
+    for (int i = 0; i < 16; i++) c->sn_sc_uuid[i] = (uint8_t)(13 * i);
 }
 
 static void fill_ul_data(chz_message *m, unsigned size)
 {
+    chz_packet *p = &m->ul_data.packet;
     m->command = CHZ_UL_DATA;
-    m->ep_eui = 0x70B3D50000000001;
-    m->rx_time = 1700000000000000000;
-    m->has_rx_duration = m->has_eq_snr = 1;
-    m->rx_duration = 1500000000;
-    m->packet_cnt = 70000;
-    m->snr = 10;
-    m->rssi = -97;
-    m->eq_snr = 0.5;
-    m->profile_len = 3;
-    memcpy(m->profile, "eu1", 3);
-    m->user_len = (uint8_t)size;
-    for (unsigned i = 0; i < size; i++) m->user_data[i] = (uint8_t)(7 * i);
+    p->ep_eui = 0x70B3D50000000001;
+    p->rx_time = 1700000000000000000;
+    p->has_rx_duration = p->has_eq_snr = 1;
+    p->rx_duration = 1500000000;
+    p->packet_cnt = 70000;
+    p->snr = 10;
+    p->rssi = -97;
+    p->eq_snr = 0.5;
+    p->profile_len = 3;
+    memcpy(p->profile, "eu1", 3);
+    m->ul_data.user_len = (uint8_t)size;
+    for (unsigned i = 0; i < size; i++) m->data[i] = (uint8_t)(7 * i);
 }
 
 static void fill_att_prp(chz_message *m)
 {
+    chz_att_prp *a = &m->att_prp;
     m->command = CHZ_ATT_PRP;
-    m->ep_eui = 0x70B3D50000000001;
-    m->bidi = m->dual_chan = m->wide_carr_off = 1;
-    m->sh_addr = 40000;
-    m->last_packet_cnt = 70000;
-    for (int i = 0; i < 16; i++) m->nwk_sn_key[i] = (uint8_t)(17 * i);
+    a->ep_eui = 0x70B3D50000000001;
+    a->bidi = a->dual_chan = a->wide_carr_off = 1;
+    a->sh_addr = 40000;
+    a->last_packet_cnt = 70000;
+    for (int i = 0; i < 16; i++) a->nwk_sn_key[i] = (uint8_t)(17 * i);
 }
 
 void message_fill(chz_message *m, const char *name, unsigned size)
@@ -83,7 +87,7 @@ void message_fill(chz_message *m, const char *name, unsigned size)
     if (!strcmp(name, "attPrp")) fill_att_prp(m);
     if (!strcmp(name, "detRsp")) {
         m->command = CHZ_DET_RSP;
-        memcpy(m->sign, "\x01\x02\xFF\x00", 4);
+        memcpy(m->det_rsp.sign, "\x01\x02\xFF\x00", 4);
     }
 }
 
@@ -98,10 +102,10 @@ static void octets(msgpack_packer *pk, const uint8_t *bytes, size_t len)
     for (size_t i = 0; i < len; i++) msgpack_pack_uint8(pk, bytes[i]);
 }
 
-static void version(msgpack_packer *pk, const chz_message *m)
+static void version(msgpack_packer *pk, const chz_con *c)
 {
     char line[24];
-    int len = snprintf(line, sizeof line, "%u.%u.%u", m->version_major, m->version_minor, m->version_patch);
+    int len = snprintf(line, sizeof line, "%u.%u.%u", c->version_major, c->version_minor, c->version_patch);
     KEY("version"), text(pk, line, (size_t)len);
 }
 
@@ -115,15 +119,16 @@ static void start(msgpack_packer *pk, size_t pairs, const char *command, size_t 
 
 static void pack_con(msgpack_packer *pk, const chz_message *m, int described)
 {
+    const chz_con *c = &m->con;
     start(pk, described ? 14 : 9, "con", 3, m->op_id);
-    version(pk, m);
-    KEY("bsEui"), msgpack_pack_uint64(pk, m->bs_eui);
-    KEY("bidi"), truth(pk, m->bidi);
+    version(pk, c);
+    KEY("bsEui"), msgpack_pack_uint64(pk, c->bs_eui);
+    KEY("bidi"), truth(pk, c->bidi);
     KEY("geoLocation"), msgpack_pack_array(pk, 3);
-    msgpack_pack_double(pk, m->latitude), msgpack_pack_double(pk, m->longitude), msgpack_pack_double(pk, m->altitude);
-    KEY("snBsUuid"), octets(pk, m->sn_bs_uuid, 16);
-    KEY("snBsOpId"), msgpack_pack_int64(pk, m->sn_bs_op_id);
-    KEY("snScOpId"), msgpack_pack_int64(pk, m->sn_sc_op_id);
+    msgpack_pack_double(pk, c->latitude), msgpack_pack_double(pk, c->longitude), msgpack_pack_double(pk, c->altitude);
+    KEY("snBsUuid"), octets(pk, c->sn_bs_uuid, 16);
+    KEY("snBsOpId"), msgpack_pack_int64(pk, c->sn_bs_op_id);
+    KEY("snScOpId"), msgpack_pack_int64(pk, c->sn_sc_op_id);
     if (!described) return;
     KEY("vendor"), KEY("Acme");
     KEY("model"), KEY("Mast 3");
@@ -139,26 +144,27 @@ static void pack_con_rsp(msgpack_packer *pk, const chz_message *m)
 {
     start(pk, 6, "conRsp", 6, m->op_id);
     KEY("version"), KEY("1.0.0");
-    KEY("scEui"), msgpack_pack_uint64(pk, m->sc_eui);
-    KEY("snResume"), truth(pk, m->sn_resume);
-    KEY("snScUuid"), octets(pk, m->sn_sc_uuid, 16);
+    KEY("scEui"), msgpack_pack_uint64(pk, m->con_rsp.sc_eui);
+    KEY("snResume"), truth(pk, m->con_rsp.sn_resume);
+    KEY("snScUuid"), octets(pk, m->con_rsp.sn_sc_uuid, 16);
 }
 
 static void pack_ul_data(msgpack_packer *pk, const chz_message *m)
 {
+    const chz_packet *p = &m->ul_data.packet;
     start(pk, 14, "ulData", 6, m->op_id);
-    KEY("epEui"), msgpack_pack_uint64(pk, m->ep_eui);
-    KEY("rxTime"), msgpack_pack_uint64(pk, m->rx_time);
-    KEY("rxDuration"), msgpack_pack_uint64(pk, m->rx_duration);
-    KEY("packetCnt"), msgpack_pack_uint32(pk, m->packet_cnt);
-    KEY("snr"), msgpack_pack_double(pk, m->snr);
-    KEY("rssi"), msgpack_pack_double(pk, m->rssi);
-    KEY("eqSnr"), msgpack_pack_double(pk, m->eq_snr);
-    KEY("profile"), text(pk, (const char *)m->profile, m->profile_len);
-    KEY("userData"), octets(pk, m->user_data, m->user_len);
-    KEY("dlOpen"), truth(pk, m->dl_open);
-    KEY("responseExp"), truth(pk, m->response_exp);
-    KEY("dlAck"), truth(pk, m->dl_ack);
+    KEY("epEui"), msgpack_pack_uint64(pk, p->ep_eui);
+    KEY("rxTime"), msgpack_pack_uint64(pk, p->rx_time);
+    KEY("rxDuration"), msgpack_pack_uint64(pk, p->rx_duration);
+    KEY("packetCnt"), msgpack_pack_uint32(pk, p->packet_cnt);
+    KEY("snr"), msgpack_pack_double(pk, p->snr);
+    KEY("rssi"), msgpack_pack_double(pk, p->rssi);
+    KEY("eqSnr"), msgpack_pack_double(pk, p->eq_snr);
+    KEY("profile"), text(pk, (const char *)p->profile, p->profile_len);
+    KEY("userData"), octets(pk, m->data, m->ul_data.user_len);
+    KEY("dlOpen"), truth(pk, m->ul_data.dl_open);
+    KEY("responseExp"), truth(pk, m->ul_data.response_exp);
+    KEY("dlAck"), truth(pk, m->ul_data.dl_ack);
 }
 
 void message_pack(msgpack_packer *pk, const chz_message *m)
@@ -169,7 +175,7 @@ void message_pack(msgpack_packer *pk, const chz_message *m)
     case CHZ_UL_DATA: pack_ul_data(pk, m); return;
     case CHZ_DET_RSP:
         start(pk, 3, "detRsp", 6, m->op_id);
-        KEY("sign"), octets(pk, m->sign, 4);
+        KEY("sign"), octets(pk, m->det_rsp.sign, 4);
         return;
     default: start(pk, 2, "ping", 4, m->op_id);
     }

@@ -9,18 +9,18 @@
 static _Alignas(64) uint8_t payload[PAYLOAD_MOST];
 static size_t payload_len;
 static _Alignas(64) chz_message image;
-static call_in_out *volatile call;
+static call_read *volatile call;
 
 /* A jump in code that is optimised: no stack of its own. */
-static uint64_t form(const uint8_t *in, size_t in_len, uint8_t *out, size_t out_len)
+static uint64_t form(const uint8_t *in, size_t in_len, uint8_t *message, size_t message_len, uint8_t *data, size_t data_len)
 {
-    (void)out, (void)out_len;
+    (void)message, (void)message_len, (void)data, (void)data_len;
     return chz_form(in, in_len);
 }
 
-static uint64_t unpack(const uint8_t *in, size_t in_len, uint8_t *out, size_t out_len)
+static uint64_t unpack(const uint8_t *in, size_t in_len, uint8_t *message, size_t message_len, uint8_t *data, size_t data_len)
 {
-    (void)out, (void)out_len;
+    (void)message, (void)message_len, (void)data, (void)data_len;
     msgpack_unpacked tree;
     size_t at = 0;
     msgpack_unpacked_init(&tree);
@@ -30,9 +30,9 @@ static uint64_t unpack(const uint8_t *in, size_t in_len, uint8_t *out, size_t ou
 }
 
 #ifdef HAVE_MSGPUCK
-static uint64_t check(const uint8_t *in, size_t in_len, uint8_t *out, size_t out_len)
+static uint64_t check(const uint8_t *in, size_t in_len, uint8_t *message, size_t message_len, uint8_t *data, size_t data_len)
 {
-    (void)out, (void)out_len;
+    (void)message, (void)message_len, (void)data, (void)data_len;
     const char *at = (const char *)in, *end = at + in_len;
     return mp_check(&at, end) == 0 && at == end;
 }
@@ -40,7 +40,7 @@ static uint64_t check(const uint8_t *in, size_t in_len, uint8_t *out, size_t out
 
 static void rounds_read(unsigned long rounds)
 {
-    while (rounds--) call(payload, payload_len, (uint8_t *)&image, sizeof image);
+    while (rounds--) call(payload, payload_len, IMAGE_OUT(image));
 }
 
 /* All sides have to accept the payload, and the library has to read what was packed. */
@@ -49,14 +49,15 @@ static void agree(const char *name, unsigned size)
     chz_message wanted;
     payload_len = payload_make(payload, &wanted, name, size);
     memset(&image, 0xEE, sizeof image);
-    uint64_t answer = chz_read(payload, payload_len, (uint8_t *)&image, sizeof image);
+    uint64_t answer = chz_message_read(payload, payload_len, &image);
     need(chz_refused(answer) == CHZ_DONE, "chz_read refuses the payload");
-    need(!memcmp(&image, &wanted, sizeof image), "chz_read reads another message");
+    need(!memcmp(&image, &wanted, CHZ_MESSAGE), "chz_read reads another message");
+    need(wanted.command != CHZ_UL_DATA || !memcmp(image.data, wanted.data, wanted.ul_data.user_len), "chz_read reads other data");
     need(strcmp(name, "pairs") || size != PAIRS_MOST || payload_len == PAYLOAD_MOST, "500 pairs aren't 4,096 bytes");
     need(chz_form(payload, payload_len) == answer, "chz_form answers otherwise");
-    need(unpack(payload, payload_len, NULL, 0) == 1, "msgpack-c refuses the payload");
+    need(unpack(payload, payload_len, NULL, 0, NULL, 0) == 1, "msgpack-c refuses the payload");
 #ifdef HAVE_MSGPUCK
-    need(check(payload, payload_len, NULL, 0) == 1, "msgpuck refuses the payload");
+    need(check(payload, payload_len, NULL, 0, NULL, 0) == 1, "msgpuck refuses the payload");
 #endif
 }
 
@@ -64,7 +65,7 @@ static void agree(const char *name, unsigned size)
 static void rounds_size(unsigned long rounds)
 {
     (void)rounds;
-    uint64_t answer = chz_read(payload, payload_len, (uint8_t *)&image, sizeof image);
+    uint64_t answer = chz_message_read(payload, payload_len, &image);
     printf("%zu %u\n", payload_len, (unsigned)chz_value(answer));
 }
 
@@ -79,6 +80,6 @@ bench_rounds *reads_case(const char *what, const char *name, unsigned size, enum
     else if (strcmp(what, "size")) return NULL;
     agree(name, size);
     if (!strcmp(what, "size")) return rounds_size;
-    if (way == WAY_EMPTY) call = empty_in_out;
+    if (way == WAY_EMPTY) call = empty_read;
     return rounds_read;
 }

@@ -18,8 +18,7 @@ static void rounds_arrive(unsigned long rounds)
 {
     while (rounds--) {
         session = start;
-        arrive_call((uint8_t *)&session, sizeof session, (const uint8_t *)&image, sizeof image, centre, uuid, sizeof uuid, sign,
-                    sizeof sign, room, room_len);
+        arrive_call((uint8_t *)&session, sizeof session, IMAGE_IN(image), centre, uuid, sizeof uuid, sign, sizeof sign, room, room_len);
     }
 }
 
@@ -27,7 +26,7 @@ static void rounds_begin(unsigned long rounds)
 {
     while (rounds--) {
         session = start;
-        begin_call((uint8_t *)&session, sizeof session, (const uint8_t *)&image, sizeof image, room, room_len);
+        begin_call((uint8_t *)&session, sizeof session, IMAGE_IN(image), room, room_len);
     }
 }
 
@@ -88,8 +87,8 @@ static void prepare(const struct step *s, unsigned size)
     if (s->stored) session_store(&start);
     message_fill(&image, s->message, size);
     if (s->happened != CHZ_RESUMED) return;
-    image.sn_bs_op_id = start.highest;
-    image.sn_sc_op_id = start.lowest;
+    image.con.sn_bs_op_id = start.highest;
+    image.con.sn_sc_op_id = start.lowest;
 }
 
 /* The message that the step has to send. */
@@ -100,8 +99,8 @@ static chz_message message_sent(const struct step *s)
     m.command = s->sent;
     m.op_id = s->happened == CHZ_ISSUED ? start.lowest - 1 : image.op_id;
     if (s->sent != CHZ_CON_RSP) return m;
-    m.sn_resume = s->happened == CHZ_RESUMED;
-    memcpy(m.sn_sc_uuid, uuid, sizeof uuid);
+    m.con_rsp.sn_resume = s->happened == CHZ_RESUMED;
+    memcpy(m.con_rsp.sn_sc_uuid, uuid, sizeof uuid);
     return m;
 }
 

@@ -18,8 +18,8 @@ static void make_stream(unsigned size)
     for (unsigned i = 0; i < STREAM_FRAMES; i++) {
         message_fill(&image, "ulData", size);
         image.op_id = i + 1;
-        image.packet_cnt = i + 1;
-        image.ep_eui = table_meter(rows - 1);
+        image.ul_data.packet.packet_cnt = i + 1;
+        image.ul_data.packet.ep_eui = table_meter(rows - 1);
         uint64_t answer = chz_message_write(&image, stream + stream_len, CHZ_ROOM);
         need(!chz_refused(answer), "chz_write refuses the stream's message");
         stream_len += chz_value(answer);
@@ -40,7 +40,7 @@ static unsigned take_stream(void)
         if (chz_refused(chz_message_read(payload, chz_value(frame) - FRAME_HEAD, &image))) continue;
         uint64_t step = chz_session_arrive(&session, &image, centre, uuid, sign, room, sizeof room);
         if (chz_happened(step) != CHZ_STARTED) continue;
-        uint64_t credit = chz_uplink(COLUMNS(rows), image.ep_eui, image.packet_cnt, 5);
+        uint64_t credit = chz_uplink(COLUMNS(rows), image.ul_data.packet.ep_eui, image.ul_data.packet.packet_cnt, 5);
         billed += chz_happened(credit) == CHZ_NEW;
     }
     return billed;

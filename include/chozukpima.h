@@ -3,12 +3,13 @@
  *
  * Every buffer is lent for one call and none is kept. The buffers of one call must not overlap, not even two that are only
  * read, such as uuid and sign. Every call may be handed any contents: what is bad is refused by its number, and a refused call
- * changes no lent byte. NULL with length 0 is a buffer of no bytes and never crashes: chz_frame answers 1, chz_form 3, chz_read
- * 15 without a message and 3 without a payload, chz_write, chz_arrive, chz_begin and chz_lost 15; a table of five such columns
- * has no rows, so chz_find, chz_withdraw and chz_uplink answer 21 and chz_enrol 23.
+ * changes no lent byte. NULL with length 0 is a buffer of no bytes and never crashes. It answers 1 in chz_frame and 3 in chz_form;
+ * 15 for a session, a message, a uuid or a sign; in chz_read 15 for data, and 3 for a payload where the others are good. Data that
+ * a message does not say may be NULL in chz_write, chz_arrive and chz_begin. A room of no bytes is 20 where a frame is to be
+ * written. A table of five such columns has no rows, so chz_find, chz_withdraw and chz_uplink answer 21 and chz_enrol 23.
  *
  * No answer depends on the floating point mode (MXCSR) that the host runs in. Nothing is allocated. 6 kB of stack are enough for
- * every call; measured: chz_write and chz_read 3.5 kB, chz_begin 3.3, the others below 2. */
+ * every call; measured: chz_arrive 3.5 kB, chz_read 2.9, chz_begin 2.2, chz_write 1.9, the others below 1. */
 #ifndef CHOZUKPIMA_H
 #define CHOZUKPIMA_H
 
@@ -139,69 +140,128 @@ static inline const char *chz_step_name(unsigned happened) {
     return happened < sizeof names / sizeof *names ? names[happened] : "unknown";
 }
 
-/* A message. What its command has not, and what is absent, is zero, so equal messages are equal bytes. */
-typedef struct chz_message {
-    uint64_t bs_eui; /* base station */
-    uint64_t sc_eui; /* service centre */
-    uint64_t time;   /* nanoseconds since 1970, UTC: the station's clock */
-    uint64_t uptime; /* seconds */
-    uint64_t ep_eui; /* meter */
+/* The most bytes of user data, or of a status text, that stand beside a message. */
+#define CHZ_DATA 245
+
+/* What det and ulData tell of a received packet. In this and the structs below, a field that may be absent has a mark has_...;
+ * where that is 0, all bits of the field are 0. These marks, and fields that say yes or no, are 0 or 1. All else is 15. */
+typedef struct chz_packet {
+    uint64_t ep_eui;      /* meter */
     uint64_t rx_time;     /* nanoseconds since 1970, UTC: centre of the last subpacket */
     uint64_t rx_duration; /* nanoseconds, centre of the first subpacket to centre of the last */
-    int64_t op_id;
+    double snr;           /* dB */
+    double rssi;          /* dBm */
+    double eq_snr;        /* dB, the equivalent under white noise */
+    uint8_t profile[16];  /* zeros behind profile_len */
+    uint32_t packet_cnt;  /* the meter's packet counter */
+    uint8_t profile_len;  /* bytes of profile, at most 16; 0: absent */
+    uint8_t has_rx_duration;
+    uint8_t has_eq_snr;
+    uint8_t reserved;
+} chz_packet;
+
+typedef struct chz_con {
+    uint64_t bs_eui;     /* base station */
     int64_t sn_bs_op_id; /* the station resumes only if its operations are known up to this ID */
     int64_t sn_sc_op_id; /* the centre's operations that the station knows, down to this ID */
-    double latitude; /* these three as the station gives them: BSSCI names no unit */
+    double latitude;     /* these three as the station gives them: BSSCI names no unit */
     double longitude;
     double altitude;
-    double duty_cycle; /* fraction of the last hour spent sending */
-    double temp;       /* degrees Celsius */
-    double cpu_load;   /* 1.0 is all cores busy */
-    double mem_load;   /* 1.0 is all memory in use */
-    double snr;    /* dB */
-    double rssi;   /* dBm */
-    double eq_snr; /* dB, the equivalent under white noise */
-    int32_t code;  /* POSIX error number; 0 is ok */
-    uint32_t packet_cnt;      /* the meter's packet counter */
-    uint32_t last_packet_cnt; /* the last one known, for the station */
+    uint8_t sn_bs_uuid[16];
     uint16_t version_major;
     uint16_t version_minor;
     uint16_t version_patch;
-    uint16_t sh_addr;
-    uint8_t command; /* enum chz_command */
-    uint8_t message_len; /* bytes of message */
-    uint8_t profile_len; /* bytes of profile; 0: absent */
-    uint8_t user_len;    /* bytes of user_data */
-    uint8_t format;      /* of user_data; 0 where none was sent */
-    /* marks: 0 or 1 */
-    uint8_t has_version;
+    uint8_t has_version; /* always 1: con must have it */
     uint8_t bidi;
     uint8_t has_geo_location;
     uint8_t has_sn_bs_op_id;
     uint8_t has_sn_sc_op_id;
+} chz_con;
+
+typedef struct chz_con_rsp {
+    uint64_t sc_eui; /* service centre */
+    uint8_t sn_sc_uuid[16];
+    uint16_t version_major;
+    uint16_t version_minor;
+    uint16_t version_patch;
+    uint8_t has_version;
     uint8_t sn_resume;
+} chz_con_rsp;
+
+typedef struct chz_status_rsp {
+    uint64_t time;     /* nanoseconds since 1970, UTC: the station's clock */
+    uint64_t uptime;   /* seconds */
+    double duty_cycle; /* fraction of the last hour spent sending */
+    double latitude;
+    double longitude;
+    double altitude;
+    double temp;     /* degrees Celsius */
+    double cpu_load; /* 1.0 is all cores busy */
+    double mem_load; /* 1.0 is all memory in use */
+    int32_t code;    /* POSIX error number; 0 is ok */
+    uint8_t message_len; /* bytes of the text in data, at most 64 */
+    uint8_t has_geo_location;
     uint8_t has_uptime;
     uint8_t has_temp;
     uint8_t has_cpu_load;
     uint8_t has_mem_load;
-    uint8_t has_rx_duration;
-    uint8_t has_eq_snr;
+} chz_status_rsp;
+
+typedef struct chz_det {
+    chz_packet packet;
+    uint8_t sign[4];
+} chz_det;
+
+typedef struct chz_det_rsp {
+    uint8_t sign[4];
+} chz_det_rsp;
+
+typedef struct chz_att_prp {
+    uint64_t ep_eui;
+    uint8_t nwk_sn_key[16];
+    uint32_t last_packet_cnt; /* the last one known, for the station */
+    uint16_t sh_addr;
+    uint8_t bidi;
     uint8_t dual_chan;
     uint8_t repetition;
     uint8_t wide_carr_off;
     uint8_t long_blk_dist;
+} chz_att_prp;
+
+typedef struct chz_det_prp {
+    uint64_t ep_eui;
+} chz_det_prp;
+
+typedef struct chz_ul_data {
+    chz_packet packet;
+    uint8_t user_len; /* bytes of user data in data, at most CHZ_DATA */
+    uint8_t format;   /* of the user data; 0 where none was sent */
     uint8_t dl_open;
-    uint8_t response_exp;
+    uint8_t response_exp; /* only with dl_open */
     uint8_t dl_ack;
-    uint8_t sn_bs_uuid[16];
-    uint8_t sn_sc_uuid[16];
-    uint8_t message[64];
-    uint8_t profile[16];
-    uint8_t sign[4];
-    uint8_t nwk_sn_key[16];
-    uint8_t user_data[245];
-    uint8_t reserved[3]; /* zeros */
+} chz_ul_data;
+
+/* A message: op_id, command, and the fields of the union's member with the command's name; other commands have no fields.
+ * Nothing else is looked at. User data or the status text goes into data, its length into user_len or message_len. */
+typedef struct chz_message {
+    int64_t op_id;
+    uint8_t command; /* enum chz_command */
+    uint8_t reserved[7];
+    union {
+        chz_status_rsp status_rsp; /* the longest is first: an initialiser that names no member sets it, so all, to zeros */
+        chz_con con;
+        chz_con_rsp con_rsp;
+        chz_det det;
+        chz_det_rsp det_rsp;
+        chz_att_prp att_prp;
+        chz_det_prp det_prp;
+        chz_ul_data ul_data;
+    };
+    uint8_t data[CHZ_DATA];
 } chz_message;
+
+/* The bytes of a chz_message in front of its data. */
+#define CHZ_MESSAGE 104
 
 /* A session with one base station. All zeros is a new one. The host stores it after every call that changes it, and looks, but
  * only the calls change it. A state over 2, a stored over 1 or a reserved byte other than 0 make it no session (15). */
@@ -222,17 +282,28 @@ typedef struct chz_session {
 
 enum chz_state { CHZ_WAITING = 0, CHZ_CONNECTING = 1, CHZ_OPEN = 2 };
 
-CHZ_SAME(sizeof(chz_message), 584);
-CHZ_SAME(offsetof(chz_message, op_id), 56);
-CHZ_SAME(offsetof(chz_message, latitude), 80);
-CHZ_SAME(offsetof(chz_message, code), 160);
-CHZ_SAME(offsetof(chz_message, version_major), 172);
-CHZ_SAME(offsetof(chz_message, command), 180);
-CHZ_SAME(offsetof(chz_message, has_version), 185);
-CHZ_SAME(offsetof(chz_message, sn_bs_uuid), 204);
-CHZ_SAME(offsetof(chz_message, message), 236);
-CHZ_SAME(offsetof(chz_message, user_data), 336);
-CHZ_SAME(offsetof(chz_message, reserved), 581);
+CHZ_SAME(offsetof(chz_message, command), 8);
+CHZ_SAME(offsetof(chz_message, con), 16);
+CHZ_SAME(offsetof(chz_message, data), CHZ_MESSAGE);
+CHZ_SAME(sizeof(chz_packet), 72);
+CHZ_SAME(offsetof(chz_packet, profile), 48);
+CHZ_SAME(offsetof(chz_packet, packet_cnt), 64);
+CHZ_SAME(offsetof(chz_packet, has_eq_snr), 70);
+CHZ_SAME(offsetof(chz_con, latitude), 24);
+CHZ_SAME(offsetof(chz_con, sn_bs_uuid), 48);
+CHZ_SAME(offsetof(chz_con, version_major), 64);
+CHZ_SAME(offsetof(chz_con, has_sn_sc_op_id), 74);
+CHZ_SAME(offsetof(chz_con_rsp, version_major), 24);
+CHZ_SAME(offsetof(chz_con_rsp, sn_resume), 31);
+CHZ_SAME(offsetof(chz_message, status_rsp) + sizeof(chz_status_rsp), CHZ_MESSAGE);
+CHZ_SAME(offsetof(chz_status_rsp, temp), 48);
+CHZ_SAME(offsetof(chz_status_rsp, code), 72);
+CHZ_SAME(offsetof(chz_status_rsp, has_mem_load), 81);
+CHZ_SAME(offsetof(chz_det, sign), 72);
+CHZ_SAME(offsetof(chz_att_prp, last_packet_cnt), 24);
+CHZ_SAME(offsetof(chz_att_prp, long_blk_dist), 34);
+CHZ_SAME(offsetof(chz_ul_data, user_len), 72);
+CHZ_SAME(offsetof(chz_ul_data, dl_ack), 76);
 CHZ_SAME(sizeof(chz_session), 368);
 CHZ_SAME(offsetof(chz_session, station_id), 24);
 CHZ_SAME(offsetof(chz_session, centre_id), 152);
@@ -256,25 +327,29 @@ uint64_t chz_frame(const uint8_t *bytes, size_t bytes_len);
  * is the byte place. */
 uint64_t chz_form(const uint8_t *payload, size_t payload_len);
 
-/* A payload into a message: the value is the count of elements. Refusals 3 to 15; for 4 to 10 the value is the byte place.
- * A message buffer that is not sizeof(chz_message) long is 15 before all others. */
-uint64_t chz_read(const uint8_t *payload, size_t payload_len, uint8_t *message, size_t message_len);
+/* A payload into a message and its data: the value is the count of elements. Refusals 3 to 15; for 4 to 10 the value is the byte
+ * place. All CHZ_MESSAGE bytes of the message are set, and as many of data as the message says. A message that is not CHZ_MESSAGE
+ * bytes long, or data of fewer than CHZ_DATA, are 15 before all others. */
+uint64_t chz_read(const uint8_t *payload, size_t payload_len, uint8_t *message, size_t message_len, uint8_t *data, size_t data_len);
 
-/* A message as a whole frame at the start of the room: the value is its length. Refusals 15, 20. Set the message to zeros
- * first and then its fields: what its command has not must be zero, else it is 15. */
-uint64_t chz_write(const uint8_t *message, size_t message_len, uint8_t *room, size_t room_len);
+/* A message as a whole frame at the start of the room: the value is its length. Refusals 15, 20. 15 is also a message that is not
+ * CHZ_MESSAGE bytes long, or one that says more bytes of data than there are. */
+uint64_t chz_write(const uint8_t *message, size_t message_len, const uint8_t *data, size_t data_len, uint8_t *room,
+                   size_t room_len);
 
 /* A message arrives from the station: what happened, and the value is how many bytes of reply stand in the room (0: none).
  * uuid is 16 fresh bytes, used where a session begins; sign is the 4 bytes for detRsp; they must not overlap. Refusals in this
  * order: while waiting 15, 17, 18, 16, 20; while connecting 15, 17; while open 15, 17, 18, 19, 20. 15 is bytes that are no
  * session, a record outside its ranges or a buffer of a wrong length. */
-uint64_t chz_arrive(uint8_t *session, size_t session_len, const uint8_t *message, size_t message_len, uint64_t sc_eui,
-                    const uint8_t *uuid, size_t uuid_len, const uint8_t *sign, size_t sign_len, uint8_t *room, size_t room_len);
+uint64_t chz_arrive(uint8_t *session, size_t session_len, const uint8_t *message, size_t message_len, const uint8_t *data,
+                    size_t data_len, uint64_t sc_eui, const uint8_t *uuid, size_t uuid_len, const uint8_t *sign, size_t sign_len,
+                    uint8_t *room, size_t room_len);
 
 /* The centre starts ping, status, attPrp or detPrp: the value is how many bytes stand in the room, under the ID issued
  * (session.lowest), whatever op_id was handed in. Refusals 17, 18, 19, 15, 20; bytes that are no session or a buffer of a wrong
  * length are 15 before these. */
-uint64_t chz_begin(uint8_t *session, size_t session_len, const uint8_t *message, size_t message_len, uint8_t *room, size_t room_len);
+uint64_t chz_begin(uint8_t *session, size_t session_len, const uint8_t *message, size_t message_len, const uint8_t *data,
+                   size_t data_len, uint8_t *room, size_t room_len);
 
 /* The connection is lost: the session waits, to be resumed. A session that a host loads after a restart goes through this call
  * first: it was open when it was stored. Refusal 15. */
@@ -316,21 +391,22 @@ typedef struct chz_table {
 } chz_table;
 
 static inline uint64_t chz_message_read(const uint8_t *payload, size_t payload_len, chz_message *message) {
-    return chz_read(payload, payload_len, (uint8_t *)message, sizeof *message);
+    return chz_read(payload, payload_len, (uint8_t *)message, CHZ_MESSAGE, message->data, CHZ_DATA);
 }
 
 static inline uint64_t chz_message_write(const chz_message *message, uint8_t *room, size_t room_len) {
-    return chz_write((const uint8_t *)message, sizeof *message, room, room_len);
+    return chz_write((const uint8_t *)message, CHZ_MESSAGE, message->data, CHZ_DATA, room, room_len);
 }
 
 static inline uint64_t chz_session_arrive(chz_session *session, const chz_message *message, uint64_t sc_eui,
                                           const uint8_t uuid[16], const uint8_t sign[4], uint8_t *room, size_t room_len) {
-    return chz_arrive((uint8_t *)session, sizeof *session, (const uint8_t *)message, sizeof *message, sc_eui, uuid, 16, sign, 4,
-                      room, room_len);
+    return chz_arrive((uint8_t *)session, sizeof *session, (const uint8_t *)message, CHZ_MESSAGE, message->data, CHZ_DATA, sc_eui,
+                      uuid, 16, sign, 4, room, room_len);
 }
 
 static inline uint64_t chz_session_begin(chz_session *session, const chz_message *message, uint8_t *room, size_t room_len) {
-    return chz_begin((uint8_t *)session, sizeof *session, (const uint8_t *)message, sizeof *message, room, room_len);
+    return chz_begin((uint8_t *)session, sizeof *session, (const uint8_t *)message, CHZ_MESSAGE, message->data, CHZ_DATA, room,
+                     room_len);
 }
 
 static inline uint64_t chz_session_lost(chz_session *session) { return chz_lost((uint8_t *)session, sizeof *session); }

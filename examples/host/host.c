@@ -29,15 +29,6 @@ static const struct operation *operation_of(uint8_t start)
     return NULL;
 }
 
-static chz_message message_of(uint8_t command, int64_t op_id)
-{
-    chz_message m;
-    memset(&m, 0, sizeof m); /* what a command has not must be zero */
-    m.command = command;
-    m.op_id = op_id;
-    return m;
-}
-
 /* A session that was stored open says so; but its connection ended with the program, so it must wait, or its con is refused. */
 void host_start(void)
 {
@@ -92,8 +83,9 @@ static void close_connection(unsigned number)
  * fault, so nothing may be acknowledged. */
 static bool credit(unsigned number, const chz_message *m, struct change *change)
 {
-    uint64_t answer = chz_table_uplink(&host_meters, m->ep_eui, m->packet_cnt, number);
-    printf("%u: meter %016" PRIX64 " counter %" PRIu32 " ", number, m->ep_eui, m->packet_cnt);
+    const chz_packet *p = &m->ul_data.packet;
+    uint64_t answer = chz_table_uplink(&host_meters, p->ep_eui, p->packet_cnt, number);
+    printf("%u: meter %016" PRIX64 " counter %" PRIu32 " ", number, p->ep_eui, p->packet_cnt);
     change->message = m;
     switch (chz_refused(answer)) {
     case CHZ_DONE:
@@ -120,7 +112,7 @@ static void complete_left_over(unsigned number)
     for (int i = 0; i < 16; i++) {
         const struct operation *o = operation_of(s->session.station_kind[i]);
         if (!o || s->again >> i & 1) continue;
-        chz_message cmp = message_of(o->cmp, s->session.station_id[i]);
+        chz_message cmp = { .command = o->cmp, .op_id = s->session.station_id[i] };
         chz_session_arrive(&s->session, &cmp, centre_eui, uuid, sign, NULL, 0);
         printf("%u: %s %" PRId64 " was lost\n", number, chz_command_name(cmp.command), cmp.op_id);
     }
@@ -129,8 +121,8 @@ static void complete_left_over(unsigned number)
 /* After a resume the station sends again what it has no Rsp for. Its ID is known (18), so it is answered from here. */
 static uint64_t answer_again(struct station *s, const chz_message *m, uint8_t rsp, const uint8_t sign[4], uint8_t *room)
 {
-    chz_message reply = message_of(rsp, m->op_id);
-    if (rsp == CHZ_DET_RSP) memcpy(reply.sign, sign, 4);
+    chz_message reply = { .command = rsp, .op_id = m->op_id };
+    if (rsp == CHZ_DET_RSP) memcpy(reply.det_rsp.sign, sign, 4);
     for (int i = 0; i < 16; i++)
         if (s->session.station_id[i] == m->op_id && s->session.station_kind[i] == m->command) s->again |= (uint16_t)(1 << i);
     return chz_message_write(&reply, room, CHZ_ROOM);

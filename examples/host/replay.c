@@ -78,7 +78,7 @@ void outside_uuid(uint8_t uuid[16])
 /* A real host computes these from the meter's key (source document 004) or asks its key store. */
 void outside_sign(const chz_message *det, uint8_t sign[4])
 {
-    for (int i = 0; i < 4; i++) sign[i] = (uint8_t)(det->ep_eui >> 8 * i);
+    for (int i = 0; i < 4; i++) sign[i] = (uint8_t)(det->det.packet.ep_eui >> 8 * i);
 }
 
 static void print_hex(const uint8_t *bytes, size_t len)
@@ -112,15 +112,25 @@ static void play_bytes(unsigned number, const char *hex)
     for (size_t at = 0; connected && at < len; at += piece) connected = host_bytes(number, bytes + at, len - at < piece ? len - at : piece);
 }
 
+static void begin_plain(unsigned number, uint8_t command)
+{
+    chz_message m = { .command = command };
+    host_begin(number, &m);
+}
+
+static void begin_detach(unsigned number, uint64_t meter)
+{
+    chz_message m = { .command = CHZ_DET_PRP, .det_prp.ep_eui = meter };
+    host_begin(number, &m);
+}
+
 static void play_begin(unsigned number, const char *what)
 {
-    chz_message m;
-    memset(&m, 0, sizeof m); /* what a command has not must be zero */
-    if (!strncmp(what, "ping", 4)) m.command = CHZ_PING;
-    else if (!strncmp(what, "status", 6)) m.command = CHZ_STATUS;
-    else if (sscanf(what, "detPrp %" SCNx64, &m.ep_eui) == 1) m.command = CHZ_DET_PRP;
+    uint64_t meter;
+    if (!strncmp(what, "ping", 4)) begin_plain(number, CHZ_PING);
+    else if (!strncmp(what, "status", 6)) begin_plain(number, CHZ_STATUS);
+    else if (sscanf(what, "detPrp %" SCNx64, &meter) == 1) begin_detach(number, meter);
     else stop("can't begin", what);
-    host_begin(number, &m);
 }
 
 static void play_station(const char *line)
@@ -154,10 +164,11 @@ static void print_store(void)
     static const char *const names[] = { [HOST_BILLS] = "bill", [HOST_LATE] = "late", [HOST_STRANGERS] = "stranger" };
     for (size_t i = 0; i < stored_count; i++) {
         const chz_message *m = &stored_list[i].message;
+        const chz_packet *p = &m->ul_data.packet;
         if (stored_list[i].list == HOST_ASKED) continue;
-        printf("%s: meter %016" PRIX64 " counter %" PRIu32 " from station %u at %" PRIu64 ", data ", names[stored_list[i].list], m->ep_eui,
-               m->packet_cnt, stored_list[i].number, m->rx_time);
-        print_hex(m->user_data, m->user_len);
+        printf("%s: meter %016" PRIX64 " counter %" PRIu32 " from station %u at %" PRIu64 ", data ", names[stored_list[i].list], p->ep_eui,
+               p->packet_cnt, stored_list[i].number, p->rx_time);
+        print_hex(m->data, m->ul_data.user_len);
     }
 }
 

@@ -6,6 +6,8 @@ void frames(void);
 void reads(void);
 void commands(void);
 void writes(void);
+void marks(void);
+void data_lengths(void);
 void steps(void);
 void refused_steps(void);
 void changes(void);
@@ -15,7 +17,7 @@ void reals(void);
 void nothing(void);
 void names(void);
 
-/* Four payloads that several groups use: P of document 01, its answer, a con and a reading. */
+/* Payloads that several groups use: P of document 01, its answer, a con, a reading, and a start of the centre with fields. */
 #define PING "82 'command' 'ping' 'opId' 01"
 #define PING_RSP "82 'command' 'pingRsp' 'opId' 01"
 #define CON_HAS "'command' 'con' 'opId' 00 'version' '1.0.0' 'bsEui' 05 'bidi' C2 'snBsUuid' DC0010 16*2A"
@@ -24,6 +26,9 @@ void names(void);
     "'command' 'ulData' 'opId' 07 'epEui' 09 'rxTime' 01 'packetCnt' 64 'snr' CA41200000 'rssi' CAC2C20000 "          \
     "'userData' 93010203 'dlOpen' C2 'responseExp' C2 'dlAck' C2"
 #define READING "8B " READING_HAS
+#define ATT_PRP                                                                                                            \
+    "8B 'command' 'attPrp' 'opId' 63 'epEui' 09 'bidi' C2 'nwkSnKey' DC0010 16*7F 'shAddr' 01 'lastPacketCnt' 64 "         \
+    "'dualChan' C2 'repetition' C2 'wideCarrOff' C2 'longBlkDist' C2"
 
 /* A message that has nothing more; the reply to a con; a con of a station that had a session, with the IDs it knows. */
 #define MESSAGE(command, id) "82 'command' '" command "' 'opId' " id

@@ -106,7 +106,7 @@ static const struct {
 /* The same step, its reply a byte too long for the room: refused last of all, and still nothing was changed. */
 static void no_change(size_t i, size_t len)
 {
-    lend_filled(&room, 0xEE, len - 1);
+    lend_filled(&room, FILLING, len - 1);
     JUDGE(take(cases[i].what), ANSWER(CHZ_ROOM_TOO_SHORT, 0, 0), ALL_OF_SESSION);
 }
 
@@ -114,7 +114,7 @@ static void change(size_t i, chz_session after, const uint8_t *frame, size_t len
 {
     cases[i].names(&after);
     expect(&session, 0, &after, sizeof after);
-    lend_filled(&room, 0xEE, CHZ_ROOM);
+    lend_filled(&room, FILLING, CHZ_ROOM);
     expect(&room, 0, frame, len);
     JUDGE(take(cases[i].what), ANSWER(CHZ_DONE, cases[i].happened, len), ALL_OF_SESSION);
 }

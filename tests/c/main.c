@@ -10,6 +10,8 @@ static void all_groups(void)
     reads();
     commands();
     writes();
+    marks();
+    data_lengths();
     steps();
     refused_steps();
     changes();

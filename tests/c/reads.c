@@ -2,9 +2,7 @@
 #include <string.h>
 
 #include "cases.h"
-#include "chozukpima.h"
-#include "lent.h"
-#include "spell.h"
+#include "messages.h"
 
 static void ping(chz_message *m)
 {
@@ -15,23 +13,42 @@ static void ping(chz_message *m)
 static void con(chz_message *m)
 {
     m->command = CHZ_CON;
-    m->has_version = 1;
-    m->version_major = 1;
-    m->bs_eui = 5;
-    memset(m->sn_bs_uuid, 0x2A, 16);
+    m->con.has_version = 1;
+    m->con.version_major = 1;
+    m->con.bs_eui = 5;
+    memset(m->con.sn_bs_uuid, 0x2A, 16);
 }
 
 static void reading(chz_message *m)
 {
     m->command = CHZ_UL_DATA;
     m->op_id = 7;
-    m->ep_eui = 9;
-    m->rx_time = 1;
-    m->packet_cnt = 100;
-    m->snr = 10;
-    m->rssi = -97;
-    m->user_len = 3;
-    memcpy(m->user_data, "\1\2\3", 3);
+    m->ul_data.packet.ep_eui = 9;
+    m->ul_data.packet.rx_time = 1;
+    m->ul_data.packet.packet_cnt = 100;
+    m->ul_data.packet.snr = 10;
+    m->ul_data.packet.rssi = -97;
+    m->ul_data.user_len = 3;
+    memcpy(m->data, "\1\2\3", 3);
+}
+
+static void no_data(chz_message *m)
+{
+    reading(m);
+    m->ul_data.user_len = 0;
+}
+
+static void status(chz_message *m)
+{
+    m->command = CHZ_STATUS_RSP;
+    m->op_id = m->status_rsp.time = 1;
+}
+
+static void status_text(chz_message *m)
+{
+    status(m);
+    m->status_rsp.message_len = 64;
+    memset(m->data, 'm', 64);
 }
 
 #define BUT_EUI                                                                                              \
@@ -46,11 +63,12 @@ static void reading(chz_message *m)
 #define BUT_FLAGS                                                                                            \
     "'command' 'ulData' 'opId' 07 'epEui' 09 'rxTime' 01 'packetCnt' 64 'snr' CA41200000 'rssi' CAC2C20000 " \
     "'userData' 93010203 'dlAck' C2 "
+#define BUT_TEXT "'command' 'statusRsp' 'opId' 01 'code' 00 'time' 01 'dutyCycle' CA00000000 'message' "
 
 static const struct {
     const char *name, *payload;
     unsigned refused, value; /* the count of elements, or for 4 to 10 the place */
-    void (*fill)(chz_message *); /* the record that must be read */
+    void (*fill)(chz_message *); /* the message that must be read */
 } cases[] = {
     { "P", PING, CHZ_DONE, 5, ping },
     { "P with a key that ping has not", "83 'command' 'ping' 'opId' 01 'epEui' 07", CHZ_DONE, 7, ping },
@@ -98,47 +116,51 @@ static const struct {
     { "userData of 246 bytes", "8B " BUT_DATA "DC00F6 246*00", CHZ_INVALID, 0, NULL },
     { "a byte over 255", "8B " BUT_DATA "93 01 02 CD0100", CHZ_INVALID, 0, NULL },
     { "userData as bin", "8B " BUT_DATA "C403010203", CHZ_INVALID, 0, NULL },
+    { "userData of no bytes", "8B " BUT_DATA "90", CHZ_DONE, 23, no_data },
+    { "a text of no bytes", "86 " BUT_TEXT "A0", CHZ_DONE, 13, status },
+    { "a text of 64 bytes", "86 " BUT_TEXT "D940 64*6D", CHZ_DONE, 13, status_text },
+    { "a text of 65 bytes", "86 " BUT_TEXT "D941 65*6D", CHZ_INVALID, 0, NULL },
+    /* Good data in a message that is refused for something else: none of it may be left behind. */
+    { "userData, then a byte left over", READING " 00", CHZ_LEFT_OVER, 108, NULL },
+    { "userData, then a key twice", "8C " READING_HAS " 'dlAck' C2", CHZ_KEY_TWICE, 0, NULL },
+    { "userData, epEui missing", "8A " BUT_EUI, CHZ_FIELD_MISSING, 0, NULL },
+    { "userData, then a bad format", "8C " READING_HAS " 'format' CD0100", CHZ_INVALID, 0, NULL },
+    { "a text, then a bad temp", "87 " BUT_TEXT "'ok' 'temp' C0", CHZ_INVALID, 0, NULL },
 };
 
+/* What is refused changes neither message nor data. */
 static void each_payload(void)
 {
-    static struct lent payload, message;
-    uint8_t spelled[LENT_MOST];
     for (size_t i = 0; i < COUNT(cases); i++) {
-        chz_message record;
-        memset(&record, 0, sizeof record);
+        chz_message m;
+        memset(&m, 0, sizeof m);
         start(cases[i].name);
-        lend(&payload, spelled, spell(cases[i].payload, spelled));
-        lend_filled(&message, 0xEE, sizeof record);
-        if (cases[i].fill) cases[i].fill(&record), expect(&message, 0, &record, sizeof record);
-        JUDGE(chz_read(payload.at, payload.len, message.at, message.len), ANSWER(cases[i].refused, 0, cases[i].value), &payload, &message);
+        lend_payload(cases[i].payload);
+        if (cases[i].fill) cases[i].fill(&m), expect_message(&m);
+        JUDGE(read_lent(), ANSWER(cases[i].refused, 0, cases[i].value), &payload, &message, &data);
     }
 }
 
 /* The form alone: the same answer where a payload is read or its form is refused. */
 static void each_form(void)
 {
-    static struct lent payload;
-    uint8_t spelled[LENT_MOST];
     for (size_t i = 0; i < COUNT(cases); i++) {
         if (cases[i].refused > CHZ_LEFT_OVER) continue;
         start(cases[i].name);
-        lend(&payload, spelled, spell(cases[i].payload, spelled));
+        lend_payload(cases[i].payload);
         JUDGE(chz_form(payload.at, payload.len), ANSWER(cases[i].refused, 0, cases[i].value), &payload);
     }
 }
 
-/* A message buffer of a wrong length is 15 before all others. */
+/* A message of a wrong length is 15 before all others; the struct's own length and the former one are wrong, too. */
 static void each_wrong_length(void)
 {
-    static struct lent payload, message;
-    static const size_t lengths[] = { 0, 1, sizeof(chz_message) - 1, sizeof(chz_message) + 1 };
-    uint8_t spelled[LENT_MOST];
+    static const size_t lengths[] = { 0, 1, CHZ_MESSAGE - 1, CHZ_MESSAGE + 1, sizeof(chz_message), 584 };
     for (size_t i = 0; i < 2 * COUNT(lengths); i++) {
         start("message buffer of a wrong length");
-        lend(&payload, spelled, spell(i % 2 ? PING : "C1", spelled));
-        lend_filled(&message, 0xEE, lengths[i / 2]);
-        JUDGE(chz_read(payload.at, payload.len, message.at, message.len), ANSWER(CHZ_INVALID, 0, 0), &payload, &message);
+        lend_payload(i % 2 ? PING : "C1");
+        lend_filled(&message, FILLING, lengths[i / 2]);
+        JUDGE(read_lent(), ANSWER(CHZ_INVALID, 0, 0), &payload, &message, &data);
     }
 }
 

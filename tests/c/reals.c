@@ -2,8 +2,7 @@
 #include <string.h>
 
 #include "cases.h"
-#include "chozukpima.h"
-#include "lent.h"
+#include "messages.h"
 #include "spell.h"
 
 #define STATUS_RSP "86 'command' 'statusRsp' 'opId' 01 'code' 00 'message' 'ok' 'time' 01 'dutyCycle' "
@@ -35,38 +34,39 @@ static const char *const endless[] = {
     STATUS_RSP "CB7FF0000000000000", STATUS_RSP "CBFFF0000000000000", STATUS_RSP "CB7FF0000000000001",
 };
 
+static chz_message status_rsp(uint64_t bits)
+{
+    chz_message m;
+    memset(&m, 0, sizeof m);
+    m.command = CHZ_STATUS_RSP;
+    m.op_id = m.status_rsp.time = 1;
+    m.status_rsp.message_len = 2;
+    memcpy(m.data, "ok", 2);
+    memcpy(&m.status_rsp.duty_cycle, &bits, 8);
+    return m;
+}
+
 static void both_ways(size_t i)
 {
-    static struct lent payload, message, room;
-    uint8_t spelled[LENT_MOST], frame[LENT_MOST];
+    uint8_t frame[LENT_MOST];
     size_t len = spell_frame(cases[i].written, frame);
-    chz_message record;
-    memset(&record, 0, sizeof record);
-    record.command = CHZ_STATUS_RSP;
-    record.op_id = record.time = 1;
-    record.message_len = 2;
-    memcpy(record.message, "ok", 2);
-    memcpy(&record.duty_cycle, &cases[i].bits, 8);
+    const chz_message m = status_rsp(cases[i].bits);
     start(cases[i].name);
-    lend(&payload, spelled, spell(cases[i].payload, spelled));
-    lend_filled(&message, 0xEE, sizeof record);
-    expect(&message, 0, &record, sizeof record);
-    JUDGE(chz_read(payload.at, payload.len, message.at, message.len), ANSWER(CHZ_DONE, 0, 13), &payload, &message);
-    lend(&message, &record, sizeof record);
-    lend_filled(&room, 0xEE, CHZ_ROOM);
+    lend_payload(cases[i].payload);
+    expect_message(&m);
+    JUDGE(read_lent(), ANSWER(CHZ_DONE, 0, 13), &payload, &message, &data);
+    lend_message(&m);
+    lend_filled(&room, FILLING, CHZ_ROOM);
     expect(&room, 0, frame, len);
-    JUDGE(chz_write(message.at, message.len, room.at, room.len), ANSWER(CHZ_DONE, 0, len), &message, &room);
+    JUDGE(write_lent(), ANSWER(CHZ_DONE, 0, len), &message, &data, &room);
 }
 
 void reals(void)
 {
-    static struct lent payload, message;
-    uint8_t spelled[LENT_MOST];
     for (size_t i = 0; i < COUNT(cases); i++) both_ways(i);
     for (size_t i = 0; i < COUNT(endless); i++) {
         start(endless[i]);
-        lend(&payload, spelled, spell(endless[i], spelled));
-        lend_filled(&message, 0xEE, sizeof(chz_message));
-        JUDGE(chz_read(payload.at, payload.len, message.at, message.len), ANSWER(CHZ_INVALID, 0, 0), &payload, &message);
+        lend_payload(endless[i]);
+        JUDGE(read_lent(), ANSWER(CHZ_INVALID, 0, 0), &payload, &message, &data);
     }
 }

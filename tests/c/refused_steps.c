@@ -7,14 +7,6 @@
 #include "sessions.h"
 #include "spell.h"
 
-static chz_session open_session(void)
-{
-    chz_session s;
-    memset(&s, 0, sizeof s);
-    s.state = CHZ_OPEN;
-    return s;
-}
-
 /* What is handed over beside the right thing. */
 static const struct {
     const char *name;
@@ -23,8 +15,9 @@ static const struct {
 } lengths[] = {
     { "session a byte short", &session, sizeof(chz_session) - 1 }, { "session a byte long", &session, sizeof(chz_session) + 1 },
     { "no session", &session, 0 }, { "session of the former length", &session, 352 },
-    { "message a byte short", &message, sizeof(chz_message) - 1 }, { "message a byte long", &message, sizeof(chz_message) + 1 },
-    { "no message", &message, 0 },
+    { "message a byte short", &message, CHZ_MESSAGE - 1 }, { "message a byte long", &message, CHZ_MESSAGE + 1 },
+    { "no message", &message, 0 }, { "message with its data behind it", &message, sizeof(chz_message) },
+    { "message of the former length", &message, 584 },
     { "uuid a byte short", &uuid, 15 }, { "uuid a byte long", &uuid, 17 },
     { "sign a byte short", &sign, 3 }, { "sign a byte long", &sign, 5 },
 };
@@ -77,33 +70,51 @@ static void each_spoilt_session(void)
 }
 
 /* An arriving record outside its ranges is 15 before 17; one to start with is 15 after 17, 18 and 19. */
-static void spoilt_record(const char *name, const chz_session *before, unsigned begin_refused)
+static void spoilt_record(const char *name, const chz_session *before, const chz_message *m, unsigned begin_refused)
 {
     start(name);
-    lend_session(before, PING);
-    chz_message record;
-    memcpy(&record, message.at, sizeof record);
-    record.ep_eui = 1;
-    lend(&message, &record, sizeof record);
+    lend_session_with(before, m);
     JUDGE(arrive(), ANSWER(CHZ_INVALID, 0, 0), ALL_OF_SESSION);
     JUDGE(begin(), ANSWER(begin_refused, 0, 0), ALL_OF_SESSION);
 }
 
-static void full(int64_t *ids, uint8_t *kinds, int64_t step)
-{
-    for (int i = 0; i < 16; i++) ids[i] = step * (i + 1), kinds[i] = CHZ_PING;
-}
-
-static void each_spoilt_record(void)
+static void in_each_session(const chz_message *m)
 {
     chz_session s = open_session();
-    spoilt_record("bad record, open", &s, CHZ_INVALID);
-    full(s.centre_id, s.centre_kind, -1);
-    spoilt_record("bad record, sixteen open", &s, CHZ_SIXTEEN_OPEN);
+    spoilt_record("bad record, open", &s, m, CHZ_INVALID);
+    fill_places(s.centre_id, s.centre_kind, -1);
+    spoilt_record("bad record, sixteen open", &s, m, CHZ_SIXTEEN_OPEN);
     s.lowest = INT64_MIN;
-    spoilt_record("bad record, no ID left", &s, CHZ_ID_OUT_OF_ORDER);
+    spoilt_record("bad record, no ID left", &s, m, CHZ_ID_OUT_OF_ORDER);
     s.state = CHZ_WAITING;
-    spoilt_record("bad record, waiting", &s, CHZ_STATE);
+    spoilt_record("bad record, waiting", &s, m, CHZ_STATE);
+}
+
+/* Of the centre's starts only attPrp can be a bad record: by its marks. */
+static void each_spoilt_record(void)
+{
+    const size_t first = offsetof(chz_message, att_prp.bidi), last = offsetof(chz_message, att_prp.long_blk_dist);
+    for (size_t at = first; at <= last; at++) {
+        chz_message m = message_of(ATT_PRP);
+        ((uint8_t *)&m)[at] = 2;
+        in_each_session(&m);
+        ((uint8_t *)&m)[at] = 255;
+        in_each_session(&m);
+    }
+}
+
+/* A command that there is not is 15 where it arrives; to begin with it is 17, before all that is wrong besides. */
+static void each_unknown_command(void)
+{
+    static const uint8_t commands[] = { 21, 22, 127, 128, 255 };
+    chz_session s = open_session();
+    fill_places(s.centre_id, s.centre_kind, -1);
+    s.lowest = INT64_MIN;
+    for (size_t i = 0; i < COUNT(commands); i++) {
+        chz_message m = message_of(PING);
+        m.command = commands[i];
+        spoilt_record("a command that there is not", &s, &m, CHZ_STATE);
+    }
 }
 
 static void limit(const char *name, const chz_session *before, unsigned arrive_refused, unsigned begin_refused)
@@ -117,8 +128,8 @@ static void limit(const char *name, const chz_session *before, unsigned arrive_r
 static void each_limit(void)
 {
     chz_session s = open_session();
-    full(s.station_id, s.station_kind, 1);
-    full(s.centre_id, s.centre_kind, -1);
+    fill_places(s.station_id, s.station_kind, 1);
+    fill_places(s.centre_id, s.centre_kind, -1);
     limit("sixteen open on each side", &s, CHZ_SIXTEEN_OPEN, CHZ_SIXTEEN_OPEN);
     s.highest = 127;
     s.lowest = INT64_MIN;
@@ -135,22 +146,22 @@ static void each_short_room(void)
     chz_session s = open_session();
     start("a byte of room missing");
     lend_session(&s, PING);
-    lend_filled(&room, 0xEE, 34);
+    lend_filled(&room, FILLING, 34);
     JUDGE(arrive(), ANSWER(CHZ_ROOM_TOO_SHORT, 0, 0), ALL_OF_SESSION);
-    lend_filled(&room, 0xEE, 31);
+    lend_filled(&room, FILLING, 31);
     JUDGE(begin(), ANSWER(CHZ_ROOM_TOO_SHORT, 0, 0), ALL_OF_SESSION);
     start("no room, but nothing to send");
     s.state = CHZ_CONNECTING;
     lend_session(&s, "82 'command' 'conCmp' 'opId' 00");
-    lend_filled(&room, 0xEE, 0);
+    lend_filled(&room, FILLING, 0);
     s.state = CHZ_OPEN;
     expect(&session, 0, &s, sizeof s);
     JUDGE(arrive(), ANSWER(CHZ_DONE, CHZ_OPENED, 0), ALL_OF_SESSION);
     start("just enough room");
     lend_session(&s, PING);
-    lend_filled(&room, 0xEE, 35);
-    JUDGE(chz_refused(arrive()), CHZ_DONE, &message, &uuid, &sign);
-    JUDGE(session_now().highest, 1, &message, &uuid, &sign);
+    lend_filled(&room, FILLING, 35);
+    JUDGE(chz_refused(arrive()), CHZ_DONE, &message, &data, &uuid, &sign);
+    JUDGE(session_now().highest, 1, &message, &data, &uuid, &sign);
 }
 
 /* Contents that no call leaves: a free place that names a kind, a negative highest and a positive lowest. */
@@ -176,7 +187,7 @@ static void strange_contents(void)
     JUDGE(arrive(), ANSWER(CHZ_ID_OUT_OF_ORDER, 0, 0), ALL_OF_SESSION);
     start("a positive lowest counts as 0");
     begin();
-    JUDGE((uint64_t)session_now().lowest, (uint64_t)-1, &message);
+    JUDGE((uint64_t)session_now().lowest, (uint64_t)-1, &message, &data);
 }
 
 /* A station that knows of no operation resumes, and the session keeps its strange IDs. */
@@ -213,6 +224,7 @@ void refused_steps(void)
     each_length();
     each_spoilt_session();
     each_spoilt_record();
+    each_unknown_command();
     each_limit();
     each_short_room();
     strange_contents();

@@ -2,32 +2,32 @@
 
 #include <string.h>
 
-#include "spell.h"
+struct lent session, uuid, sign;
 
-struct lent session, message, uuid, sign, room;
-
-void lend_session(const chz_session *before, const char *payload)
+void lend_session(const chz_session *before, const char *spelled)
 {
-    uint8_t spelled[LENT_MOST];
-    chz_message record;
-    size_t len = spell(payload, spelled);
-    memset(&record, 0, sizeof record);
-    chz_read(spelled, len, (uint8_t *)&record, sizeof record);
+    const chz_message m = message_of(spelled);
+    lend_session_with(before, &m);
+}
+
+void lend_session_with(const chz_session *before, const chz_message *m)
+{
     lend(&session, before, sizeof *before);
-    lend(&message, &record, sizeof record);
+    lend_message(m);
     lend_filled(&uuid, 0x11, 16);
     lend_filled(&sign, 0x22, 4);
-    lend_filled(&room, 0xEE, CHZ_ROOM);
+    lend_filled(&room, FILLING, CHZ_ROOM);
 }
 
 uint64_t arrive(void)
 {
-    return chz_arrive(session.at, session.len, message.at, message.len, 128, uuid.at, uuid.len, sign.at, sign.len, room.at, room.len);
+    return chz_arrive(session.at, session.len, message.at, message.len, data.at, data.len, 128, uuid.at, uuid.len, sign.at,
+                      sign.len, room.at, room.len);
 }
 
 uint64_t begin(void)
 {
-    return chz_begin(session.at, session.len, message.at, message.len, room.at, room.len);
+    return chz_begin(session.at, session.len, message.at, message.len, data.at, data.len, room.at, room.len);
 }
 
 uint64_t lose(void)
@@ -46,4 +46,17 @@ chz_session session_now(void)
     chz_session now;
     memcpy(&now, session.at, sizeof now);
     return now;
+}
+
+chz_session open_session(void)
+{
+    chz_session s;
+    memset(&s, 0, sizeof s);
+    s.state = CHZ_OPEN;
+    return s;
+}
+
+void fill_places(int64_t *ids, uint8_t *kinds, int64_t step)
+{
+    for (int i = 0; i < 16; i++) ids[i] = step * (i + 1), kinds[i] = CHZ_PING;
 }

@@ -4,11 +4,13 @@
 
 #include "chozukpima.h"
 #include "lent.h"
+#include "messages.h"
 
-extern struct lent session, message, uuid, sign, room;
+extern struct lent session, uuid, sign;
 
-/* All buffers in their right lengths; the message is spelled. */
+/* All buffers in their right lengths; the message is spelled, or given. */
 void lend_session(const chz_session *before, const char *payload);
+void lend_session_with(const chz_session *before, const chz_message *m);
 uint64_t arrive(void);
 uint64_t begin(void);
 uint64_t lose(void);
@@ -18,6 +20,10 @@ chz_session session_now(void);
 enum what { ARRIVES, BEGINS, LOST };
 uint64_t take(enum what what);
 
-#define ALL_OF_SESSION &session, &message, &uuid, &sign, &room
+/* A session that is open and has nothing else; and sixteen places taken, under multiples of an ID. */
+chz_session open_session(void);
+void fill_places(int64_t *ids, uint8_t *kinds, int64_t step);
+
+#define ALL_OF_SESSION &session, &message, &data, &uuid, &sign, &room
 
 #endif

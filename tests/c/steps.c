@@ -11,9 +11,6 @@
 #define DET_9                                                                                                              \
     "88 'command' 'det' 'opId' 09 'epEui' 09 'rxTime' 01 'packetCnt' 65 'snr' CA41200000 'rssi' CAC2C20000 'sign' 9401020304"
 #define STATUS_RSP "86 'command' 'statusRsp' 'opId' FF 'code' 00 'message' 'ok' 'time' 01 'dutyCycle' CA3E800000"
-#define ATT_PRP                                                                                                            \
-    "8B 'command' 'attPrp' 'opId' 63 'epEui' 09 'bidi' C2 'nwkSnKey' DC0010 16*7F 'shAddr' 01 'lastPacketCnt' 64 "         \
-    "'dualChan' C2 'repetition' C2 'wideCarrOff' C2 'longBlkDist' C2"
 #define ATT_PRP_SENT                                                                                                       \
     "8B 'command' 'attPrp' 'opId' FD 'epEui' 09 'bidi' C2 'nwkSnKey' DC0010 16*7F 'shAddr' 01 'lastPacketCnt' 64 "         \
     "'dualChan' C2 'repetition' C2 'wideCarrOff' C2 'longBlkDist' C2"
@@ -87,15 +84,18 @@ static void expect_session(size_t i, chz_session now)
     expect(&session, 0, &now, sizeof now);
 }
 
-static void one_life(void)
+/* In every byte that the message's command does not have stands garbage: it changes nothing. */
+static void one_life(uint8_t garbage)
 {
     chz_session before;
     memset(&before, 0, sizeof before);
     for (size_t i = 0; i < COUNT(cases); i++) {
         uint8_t frame[LENT_MOST];
         size_t len = cases[i].sent ? spell_frame(cases[i].sent, frame) : 0;
+        chz_message m = message_of(cases[i].message);
+        m = with_garbage(&m, garbage);
         start(cases[i].name);
-        lend_session(&before, cases[i].message);
+        lend_session_with(&before, &m);
         expect(&room, 0, frame, len);
         uint64_t answer = take(cases[i].what);
         before = session_now();
@@ -140,6 +140,8 @@ static void whole_session(void)
 
 void steps(void)
 {
-    one_life();
+    one_life(0);
+    one_life(2);
+    one_life(0xFF);
     whole_session();
 }

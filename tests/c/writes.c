@@ -1,109 +1,152 @@
-/* chz_write: rooms of several lengths, and records that may not be written. */
+/* chz_write: rooms of several lengths, messages that may not be written, and bytes that make no difference. */
 #include <math.h>
 #include <string.h>
 
 #include "cases.h"
-#include "chozukpima.h"
-#include "lent.h"
+#include "messages.h"
 #include "spell.h"
+#include "whole.h"
 
 static const struct {
     const char *name;
     size_t message_len, room_len;
     unsigned refused;
 } rooms[] = {
-    { "pingRsp 1 takes 35 bytes", sizeof(chz_message), 35, CHZ_DONE },
-    { "the rest of the room stays", sizeof(chz_message), 100, CHZ_DONE },
-    { "34 bytes of room", sizeof(chz_message), 34, CHZ_ROOM_TOO_SHORT },
-    { "no room", sizeof(chz_message), 0, CHZ_ROOM_TOO_SHORT },
-    { "message a byte short", sizeof(chz_message) - 1, 100, CHZ_INVALID },
-    { "message a byte long", sizeof(chz_message) + 1, 100, CHZ_INVALID },
+    { "pingRsp 1 takes 35 bytes", CHZ_MESSAGE, 35, CHZ_DONE },
+    { "the rest of the room stays", CHZ_MESSAGE, 100, CHZ_DONE },
+    { "34 bytes of room", CHZ_MESSAGE, 34, CHZ_ROOM_TOO_SHORT },
+    { "no room", CHZ_MESSAGE, 0, CHZ_ROOM_TOO_SHORT },
+    { "message a byte short", CHZ_MESSAGE - 1, 100, CHZ_INVALID },
+    { "message a byte long", CHZ_MESSAGE + 1, 100, CHZ_INVALID },
     { "no message", 0, 100, CHZ_INVALID },
+    { "message with its data behind it", sizeof(chz_message), 100, CHZ_INVALID },
+    { "message of the former length", 584, 100, CHZ_INVALID },
+    { "wrong length before no room", CHZ_MESSAGE - 1, 0, CHZ_INVALID },
 };
 
-/* Each spoils one record, which is else in its ranges. */
-#define SPOIL(name, edit) static void name(chz_message *m) { edit; }
-SPOIL(no_command, m->command = 21)
-SPOIL(reserved_byte, m->reserved[2] = 1)
-SPOIL(field_of_others, m->ep_eui = 1)
-SPOIL(mark_of_others, m->has_temp = 1)
-SPOIL(mark_over_one, m->dl_ack = 2)
-SPOIL(data_too_long, m->user_len = 246)
-SPOIL(byte_behind_data, m->user_data[3] = 1)
-SPOIL(profile_too_long, m->profile_len = 17)
-SPOIL(byte_behind_profile, m->profile[0] = 'e')
-SPOIL(absent_but_not_zero, m->eq_snr = 1)
-SPOIL(response_without_open, m->response_exp = 1)
-SPOIL(no_number, m->snr = NAN)
-SPOIL(endless, m->rssi = -INFINITY)
-SPOIL(minus_zero_absent, m->eq_snr = -0.0)
-SPOIL(least_absent, m->eq_snr = 4.9406564584124654e-324)
-SPOIL(negative_station_id, m->has_sn_bs_op_id = 1; m->sn_bs_op_id = -1)
-SPOIL(positive_centre_id, m->has_sn_sc_op_id = 1; m->sn_sc_op_id = 1)
-SPOIL(con_without_version, m->has_version = m->version_major = 0)
+/* Each spoils one message, which is else in its ranges. */
+#define EDIT(name, edit) static void name(chz_message *m) { edit; }
+EDIT(no_command, m->command = 21)
+EDIT(greatest_command, m->command = 255)
+EDIT(mark_over_one, m->ul_data.dl_ack = 2)
+EDIT(data_too_long, m->ul_data.user_len = 246)
+EDIT(text_too_long, m->status_rsp.message_len = 65)
+EDIT(profile_too_long, m->ul_data.packet.profile_len = 17)
+EDIT(bytes_of_no_profile, m->ul_data.packet.profile_len = 0)
+EDIT(byte_behind_profile, m->ul_data.packet.profile[3] = 1)
+EDIT(last_byte_behind_profile, m->det.packet.profile[15] = 1)
+EDIT(absent_but_not_zero, m->ul_data.packet.has_eq_snr = 0; m->ul_data.packet.eq_snr = 1)
+EDIT(response_without_open, m->ul_data.dl_open = 0; m->ul_data.response_exp = 1)
+EDIT(no_number, m->ul_data.packet.snr = NAN)
+EDIT(endless, m->ul_data.packet.rssi = -INFINITY)
+EDIT(nowhere, m->con.altitude = NAN)
+EDIT(endless_load, m->status_rsp.mem_load = INFINITY)
+EDIT(minus_zero_absent, m->ul_data.packet.has_eq_snr = 0; m->ul_data.packet.eq_snr = -0.0)
+EDIT(least_absent, m->ul_data.packet.has_eq_snr = 0; m->ul_data.packet.eq_snr = 4.9406564584124654e-324)
+EDIT(negative_station_id, m->con.sn_bs_op_id = -1)
+EDIT(positive_centre_id, m->con.sn_sc_op_id = 1)
+EDIT(con_without_version, m->con.has_version = m->con.version_major = m->con.version_patch = 0)
 
-static const struct {
-    const char *name, *payload;
-    void (*spoil)(chz_message *);
-} spoilt[] = {
-    { "command 21", PING, no_command },
-    { "reserved byte", PING, reserved_byte },
-    { "field of another command", PING, field_of_others },
-    { "mark of another command", PING, mark_of_others },
-    { "mark of 2", READING, mark_over_one },
-    { "246 bytes of userData", READING, data_too_long },
-    { "byte behind userData", READING, byte_behind_data },
-    { "profile of 17 bytes", READING, profile_too_long },
-    { "byte behind an absent profile", READING, byte_behind_profile },
-    { "absent eqSnr that is not zero", READING, absent_but_not_zero },
-    { "responseExp without dlOpen", READING, response_without_open },
-    { "snr no number", READING, no_number },
-    { "rssi endless", READING, endless },
-    { "absent eqSnr of minus zero", READING, minus_zero_absent },
-    { "absent eqSnr of the least number above zero", READING, least_absent },
-    { "negative snBsOpId", CON, negative_station_id },
-    { "positive snScOpId", CON, positive_centre_id },
-    { "con without version", CON, con_without_version },
+struct edited {
+    const char *name;
+    uint8_t command;
+    void (*edit)(chz_message *);
 };
 
-static chz_message record_of(const char *payload)
-{
-    uint8_t spelled[LENT_MOST];
-    chz_message record;
-    size_t len = spell(payload, spelled);
-    memset(&record, 0, sizeof record);
-    chz_read(spelled, len, (uint8_t *)&record, sizeof record);
-    return record;
-}
+static const struct edited spoilt[] = {
+    { "command 21", CHZ_PING, no_command },
+    { "command 255", CHZ_PING, greatest_command },
+    { "mark of 2", CHZ_UL_DATA, mark_over_one },
+    { "246 bytes of userData", CHZ_UL_DATA, data_too_long },
+    { "65 bytes of text", CHZ_STATUS_RSP, text_too_long },
+    { "profile of 17 bytes", CHZ_UL_DATA, profile_too_long },
+    { "bytes of an absent profile", CHZ_UL_DATA, bytes_of_no_profile },
+    { "byte behind a profile", CHZ_UL_DATA, byte_behind_profile },
+    { "last byte behind a profile", CHZ_DET, last_byte_behind_profile },
+    { "absent eqSnr that is not zero", CHZ_UL_DATA, absent_but_not_zero },
+    { "responseExp without dlOpen", CHZ_UL_DATA, response_without_open },
+    { "snr no number", CHZ_UL_DATA, no_number },
+    { "rssi endless", CHZ_UL_DATA, endless },
+    { "altitude no number", CHZ_CON, nowhere },
+    { "memLoad endless", CHZ_STATUS_RSP, endless_load },
+    { "absent eqSnr of minus zero", CHZ_UL_DATA, minus_zero_absent },
+    { "absent eqSnr of the least number above zero", CHZ_UL_DATA, least_absent },
+    { "negative snBsOpId", CHZ_CON, negative_station_id },
+    { "positive snScOpId", CHZ_CON, positive_centre_id },
+    { "con without version", CHZ_CON, con_without_version },
+};
+
+/* Each changes what the message's command does not have: the frame is the same. */
+EDIT(reserved_byte, m->reserved[2] = 1)
+EDIT(packets_reserved_byte, m->ul_data.packet.reserved = 255)
+EDIT(field_of_others, m->det_prp.ep_eui = 1)
+EDIT(mark_of_others, m->status_rsp.has_temp = 2)
+EDIT(real_of_others, m->status_rsp.temp = NAN)
+EDIT(length_of_others, m->status_rsp.message_len = 255; m->ul_data.user_len = 255)
+EDIT(byte_behind_data, m->data[2] = 1)
+EDIT(byte_behind_text, memset(m->data + 2, 0xFF, CHZ_DATA - 2))
+EDIT(data_of_none, memset(m->data, 0xFF, CHZ_DATA))
+
+static const struct edited ignored[] = {
+    { "reserved byte", CHZ_PING, reserved_byte },
+    { "packet's reserved byte", CHZ_UL_DATA, packets_reserved_byte },
+    { "field of another command", CHZ_PING, field_of_others },
+    { "mark of another command", CHZ_PING, mark_of_others },
+    { "real of another command", CHZ_DET_RSP, real_of_others },
+    { "lengths of other commands", CHZ_ATT_PRP, length_of_others },
+    { "byte behind userData", CHZ_UL_DATA, byte_behind_data },
+    { "bytes behind the text", CHZ_STATUS_RSP, byte_behind_text },
+    { "data of a command that has none", CHZ_CON, data_of_none },
+};
 
 static void each_room(void)
 {
-    static struct lent message, room;
-    uint8_t image[sizeof(chz_message) + 1] = { 0 }, frame[LENT_MOST];
-    chz_message record = record_of(PING_RSP);
+    uint8_t image[LENT_MOST] = { 0 }, frame[LENT_MOST];
+    const chz_message m = message_of(PING_RSP);
     size_t len = spell_frame(PING_RSP, frame);
-    memcpy(image, &record, sizeof record);
+    memcpy(image, &m, CHZ_MESSAGE);
     for (size_t i = 0; i < COUNT(rooms); i++) {
         unsigned refused = rooms[i].refused;
         start(rooms[i].name);
         lend(&message, image, rooms[i].message_len);
-        lend_filled(&room, 0xEE, rooms[i].room_len);
+        lend(&data, m.data, 0);
+        lend_filled(&room, FILLING, rooms[i].room_len);
         if (!refused) expect(&room, 0, frame, len);
-        JUDGE(chz_write(message.at, message.len, room.at, room.len), ANSWER(refused, 0, refused ? 0 : len), &message, &room);
+        JUDGE(write_lent(), ANSWER(refused, 0, refused ? 0 : len), &message, &data, &room);
     }
+}
+
+static void lend_edited(const struct edited *e)
+{
+    chz_message m = whole_message(whole_of(e->command));
+    e->edit(&m);
+    start(e->name);
+    lend_message(&m);
+    lend(&data, m.data, CHZ_DATA);
 }
 
 /* In a room that is long enough, and in none: 15 comes before 20. */
 static void each_spoilt(void)
 {
-    static struct lent message, room;
     for (size_t i = 0; i < 2 * COUNT(spoilt); i++) {
-        chz_message record = record_of(spoilt[i / 2].payload);
-        spoilt[i / 2].spoil(&record);
-        start(spoilt[i / 2].name);
-        lend(&message, &record, sizeof record);
-        lend_filled(&room, 0xEE, i % 2 ? CHZ_ROOM : 0);
-        JUDGE(chz_write(message.at, message.len, room.at, room.len), ANSWER(CHZ_INVALID, 0, 0), &message, &room);
+        lend_edited(&spoilt[i / 2]);
+        lend_filled(&room, FILLING, i % 2 ? CHZ_ROOM : 0);
+        JUDGE(write_lent(), ANSWER(CHZ_INVALID, 0, 0), &message, &data, &room);
+    }
+}
+
+/* In a room that is long enough, and in none: 20, since nothing else is wrong. */
+static void each_ignored(void)
+{
+    for (size_t i = 0; i < COUNT(ignored); i++) {
+        uint8_t frame[LENT_MOST];
+        size_t len = spell_frame(whole_of(ignored[i].command)->payload, frame);
+        lend_edited(&ignored[i]);
+        lend_filled(&room, FILLING, 0);
+        JUDGE(write_lent(), ANSWER(CHZ_ROOM_TOO_SHORT, 0, 0), &message, &data, &room);
+        lend_filled(&room, FILLING, CHZ_ROOM);
+        expect(&room, 0, frame, len);
+        JUDGE(write_lent(), ANSWER(CHZ_DONE, 0, len), &message, &data, &room);
     }
 }
 
@@ -111,4 +154,5 @@ void writes(void)
 {
     each_room();
     each_spoilt();
+    each_ignored();
 }

@@ -1,7 +1,7 @@
 /* Makes the library's calls on the cases that come from standard input (stream.rs says how they are written) and compares the
  * answer and every lent byte with what the reference expects. Each call is made twice: in the floating point mode that a program
  * starts with, and with subnormal numbers taken for zero. Each buffer ends at a page that must not be touched and has marked
- * bytes before it. With a case's number as argument it also prints what that case hands over.
+ * bytes before it; the second time an empty one is NULL. With a case's number as argument it also prints what that case hands over.
  * The last line is 'N passed, M failed'. */
 #define _GNU_SOURCE
 #include <setjmp.h>
@@ -27,13 +27,13 @@ struct argument { const char *name; char shape; };
 struct call { const char *name; struct argument arguments[MOST_ARGUMENTS]; };
 
 #define COLUMNS { "used", '1' }, { "eui", '8' }, { "sh_addr", '2' }, { "last", '4' }, { "heard", '8' }, { "meter", 'n' }
+#define IMAGE { "message", 'm' }, { "data", 'b' }
 static const struct call calls[] = {
     { "chz_frame", { { "bytes", 'b' } } },
-    { "chz_read", { { "payload", 'b' }, { "message", 'm' } } },
-    { "chz_write", { { "message", 'm' }, { "room", 'b' } } },
-    { "chz_arrive",
-        { { "session", 's' }, { "message", 'm' }, { "sc_eui", 'n' }, { "uuid", 'b' }, { "sign", 'b' }, { "room", 'b' } } },
-    { "chz_begin", { { "session", 's' }, { "message", 'm' }, { "room", 'b' } } },
+    { "chz_read", { { "payload", 'b' }, IMAGE } },
+    { "chz_write", { IMAGE, { "room", 'b' } } },
+    { "chz_arrive", { { "session", 's' }, IMAGE, { "sc_eui", 'n' }, { "uuid", 'b' }, { "sign", 'b' }, { "room", 'b' } } },
+    { "chz_begin", { { "session", 's' }, IMAGE, { "room", 'b' } } },
     { "chz_lost", { { "session", 's' } } },
     { "chz_find", { COLUMNS } },
     { "chz_enrol", { COLUMNS, { "meter_sh_addr", 'n' }, { "counter", 'n' } } },
@@ -45,19 +45,34 @@ enum { CALLS = sizeof calls / sizeof *calls };
 
 struct member { const char *name; size_t at, size; };
 #define M(name) { #name, offsetof(chz_message, name), sizeof(((chz_message *)0)->name) }
-static const struct member message_members[] = {
-    M(bs_eui), M(sc_eui), M(time), M(uptime), M(ep_eui), M(rx_time), M(rx_duration), M(op_id), M(sn_bs_op_id), M(sn_sc_op_id),
-    M(latitude), M(longitude), M(altitude), M(duty_cycle), M(temp), M(cpu_load), M(mem_load), M(snr), M(rssi), M(eq_snr), M(code),
-    M(packet_cnt), M(last_packet_cnt), M(version_major), M(version_minor), M(version_patch), M(sh_addr), M(command),
-    M(message_len), M(profile_len), M(user_len), M(format), M(has_version), M(bidi), M(has_geo_location), M(has_sn_bs_op_id),
-    M(has_sn_sc_op_id), M(sn_resume), M(has_uptime), M(has_temp), M(has_cpu_load), M(has_mem_load), M(has_rx_duration),
-    M(has_eq_snr), M(dual_chan), M(repetition), M(wide_carr_off), M(long_blk_dist), M(dl_open), M(response_exp), M(dl_ack),
-    M(sn_bs_uuid), M(sn_sc_uuid), M(message), M(profile), M(sign), M(nwk_sn_key), M(user_data), M(reserved), { 0, 0, 0 },
+#define P(name) M(name.ep_eui), M(name.rx_time), M(name.rx_duration), M(name.snr), M(name.rssi), M(name.eq_snr), M(name.profile), \
+    M(name.packet_cnt), M(name.profile_len), M(name.has_rx_duration), M(name.has_eq_snr), M(name.reserved)
+#define LAST { 0, 0, 0 }
+static const struct member head_members[] = { M(op_id), M(command), M(reserved), LAST };
+/* The fields of each command that has some. */
+static const struct member field_members[][17] = {
+    [CHZ_CON] = { M(con.bs_eui), M(con.sn_bs_op_id), M(con.sn_sc_op_id), M(con.latitude), M(con.longitude), M(con.altitude),
+        M(con.sn_bs_uuid), M(con.version_major), M(con.version_minor), M(con.version_patch), M(con.has_version), M(con.bidi),
+        M(con.has_geo_location), M(con.has_sn_bs_op_id), M(con.has_sn_sc_op_id), LAST },
+    [CHZ_CON_RSP] = { M(con_rsp.sc_eui), M(con_rsp.sn_sc_uuid), M(con_rsp.version_major), M(con_rsp.version_minor),
+        M(con_rsp.version_patch), M(con_rsp.has_version), M(con_rsp.sn_resume), LAST },
+    [CHZ_STATUS_RSP] = { M(status_rsp.time), M(status_rsp.uptime), M(status_rsp.duty_cycle), M(status_rsp.latitude),
+        M(status_rsp.longitude), M(status_rsp.altitude), M(status_rsp.temp), M(status_rsp.cpu_load), M(status_rsp.mem_load),
+        M(status_rsp.code), M(status_rsp.message_len), M(status_rsp.has_geo_location), M(status_rsp.has_uptime),
+        M(status_rsp.has_temp), M(status_rsp.has_cpu_load), M(status_rsp.has_mem_load), LAST },
+    [CHZ_DET] = { P(det.packet), M(det.sign), LAST },
+    [CHZ_DET_RSP] = { M(det_rsp.sign), LAST },
+    [CHZ_ATT_PRP] = { M(att_prp.ep_eui), M(att_prp.nwk_sn_key), M(att_prp.last_packet_cnt), M(att_prp.sh_addr), M(att_prp.bidi),
+        M(att_prp.dual_chan), M(att_prp.repetition), M(att_prp.wide_carr_off), M(att_prp.long_blk_dist), LAST },
+    [CHZ_DET_PRP] = { M(det_prp.ep_eui), LAST },
+    [CHZ_UL_DATA] = { P(ul_data.packet), M(ul_data.user_len), M(ul_data.format), M(ul_data.dl_open), M(ul_data.response_exp),
+        M(ul_data.dl_ack) },
+    [CHZ_UL_DATA_CMP] = { LAST },
 };
 #define S(name) { #name, offsetof(chz_session, name), sizeof(((chz_session *)0)->name) }
 static const struct member session_members[] = {
     S(bs_eui), S(highest), S(lowest), S(station_id), S(centre_id), S(station_kind), S(centre_kind), S(sn_bs_uuid), S(sn_sc_uuid),
-    S(state), S(stored), S(reserved), { 0, 0, 0 },
+    S(state), S(stored), S(reserved), LAST,
 };
 
 /* One argument of the case at hand. */
@@ -125,19 +140,24 @@ static void broke(int signal)
     siglongjmp(back, signal);
 }
 
-#define BYTES(i) handed[i].lent, handed[i].count
+static uint8_t *pointer(int i)
+{
+    return handed[i].size || mode == modes[0] ? handed[i].lent : 0;
+}
+
+#define BYTES(i) pointer(i), handed[i].count
 #define N(i) handed[i].count
-#define TABLE BYTES(0), (uint64_t *)(void *)handed[1].lent, N(1), (uint16_t *)(void *)handed[2].lent, N(2), \
-    (uint32_t *)(void *)handed[3].lent, N(3), (uint64_t *)(void *)handed[4].lent, N(4), N(5)
+#define TABLE BYTES(0), (uint64_t *)(void *)pointer(1), N(1), (uint16_t *)(void *)pointer(2), N(2), \
+    (uint32_t *)(void *)pointer(3), N(3), (uint64_t *)(void *)pointer(4), N(4), N(5)
 
 static uint64_t make_call(void)
 {
     switch (call - calls) {
     case 0: return chz_frame(BYTES(0));
-    case 1: return chz_read(BYTES(0), BYTES(1));
-    case 2: return chz_write(BYTES(0), BYTES(1));
-    case 3: return chz_arrive(BYTES(0), BYTES(1), N(2), BYTES(3), BYTES(4), BYTES(5));
-    case 4: return chz_begin(BYTES(0), BYTES(1), BYTES(2));
+    case 1: return chz_read(BYTES(0), BYTES(1), BYTES(2));
+    case 2: return chz_write(BYTES(0), BYTES(1), BYTES(2));
+    case 3: return chz_arrive(BYTES(0), BYTES(1), BYTES(2), N(3), BYTES(4), BYTES(5), BYTES(6));
+    case 4: return chz_begin(BYTES(0), BYTES(1), BYTES(2), BYTES(3));
     case 5: return chz_lost(BYTES(0));
     case 6: return chz_find(TABLE);
     case 7: return chz_enrol(TABLE, (uint16_t)N(6), (uint32_t)N(7));
@@ -184,26 +204,36 @@ static const char *hex(const uint8_t *bytes, size_t size)
     return start;
 }
 
-/* A whole buffer, or the member of that name in it. */
-static void compare_part(int *differs, int i, const char *member, size_t start, size_t size)
+/* A whole buffer, or the member of that name in it: whether it differs. */
+static int compare_part(int *differs, int i, const char *member, size_t start, size_t size)
 {
     const uint8_t *must = handed[i].after + start, *is = handed[i].lent + start;
-    if (!memcmp(must, is, size)) return;
+    if (!memcmp(must, is, size)) return 0;
     size_t at = 0;
     while (must[at] == is[at]) at++;
     wrong(differs, "%s%s%s from byte %zu: expected %s, got %s", call->arguments[i].name, *member ? "." : "", member, at,
         hex(must + at, size - at), hex(is + at, size - at));
+    return 1;
 }
 
+static int compare_members(int *differs, int i, const struct member *m)
+{
+    int named = 0;
+    for (; m->name; m++) named += compare_part(differs, i, m->name, m->at, m->size);
+    return named;
+}
+
+/* What differs is named where it has a name; then the bytes between and behind the members, if they alone differ. */
 static void compare_buffer(int *differs, int i)
 {
     const struct argument *a = &call->arguments[i];
     const struct handed *h = &handed[i];
-    const struct member *m = 0;
-    if (a->shape == 'm' && h->size == sizeof(chz_message)) m = message_members;
-    if (a->shape == 's' && h->size == sizeof(chz_session)) m = session_members;
-    if (!m) compare_part(differs, i, "", 0, h->size);
-    else for (; m->name; m++) compare_part(differs, i, m->name, m->at, m->size);
+    int named = 0;
+    uint8_t command = a->shape == 'm' && h->size == CHZ_MESSAGE ? h->after[offsetof(chz_message, command)] : UINT8_MAX;
+    if (command < sizeof field_members / sizeof *field_members)
+        named = compare_members(differs, i, head_members) + compare_members(differs, i, field_members[command]);
+    if (a->shape == 's' && h->size == sizeof(chz_session)) named = compare_members(differs, i, session_members);
+    if (!named) compare_part(differs, i, "", 0, h->size);
     for (size_t b = 1; b <= BEFORE; b++)
         if (h->lent[-(ptrdiff_t)b] != MARK) {
             wrong(differs, "%s: a byte %zu before it was changed", a->name, b);

@@ -5,6 +5,7 @@
 //! count of its elements, its bytes before the call, and 0 (it must stay so) or 1 and its bytes after the call.
 
 use crate::reference::calls::{self, Columns};
+use crate::reference::image::Image;
 use std::io::{BufWriter, Stdout, Write};
 
 pub struct Stream {
@@ -45,6 +46,11 @@ impl Case {
     /// A buffer of bytes before and after the call.
     fn buffer(self, before: &[u8], after: &[u8]) -> Case {
         self.column(before.len(), before, after)
+    }
+
+    /// A message and its data, as the calls take them.
+    fn image(self, before: &Image, after: &Image) -> Case {
+        self.buffer(&before.message, &after.message).buffer(&before.data, &after.data)
     }
 
     fn column(mut self, count: usize, before: &[u8], after: &[u8]) -> Case {
@@ -99,43 +105,43 @@ impl Stream {
     }
 
     /// Each payload's form is judged alone, too.
-    pub fn read(&mut self, payload: &[u8], message: &[u8]) -> u64 {
+    pub fn read(&mut self, payload: &[u8], lent: &Image) -> u64 {
         self.case(Case::new(Call::Form).buffer(payload, payload), calls::form(payload));
-        let mut after = message.to_vec();
+        let mut after = lent.clone();
         let answer = calls::read(payload, &mut after);
         self.messages += 1;
-        self.case(Case::new(Call::Read).buffer(payload, payload).buffer(message, &after), answer)
+        self.case(Case::new(Call::Read).buffer(payload, payload).image(lent, &after), answer)
     }
 
-    pub fn write(&mut self, message: &[u8], room: &[u8]) -> u64 {
+    pub fn write(&mut self, image: &Image, room: &[u8]) -> u64 {
         let mut after = room.to_vec();
-        let answer = calls::write(message, &mut after);
+        let answer = calls::write(image, &mut after);
         self.messages += 1;
-        self.case(Case::new(Call::Write).buffer(message, message).buffer(room, &after), answer)
+        self.case(Case::new(Call::Write).image(image, image).buffer(room, &after), answer)
     }
 
     /// The answer and the session after the call.
     pub fn arrive(
         &mut self,
         session: &[u8],
-        message: &[u8],
+        image: &Image,
         sc_eui: u64,
         uuid: &[u8],
         sign: &[u8],
         room: &[u8],
     ) -> (u64, Vec<u8>) {
         let (mut after, mut room_after) = (session.to_vec(), room.to_vec());
-        let answer = calls::arrive(&mut after, message, sc_eui, uuid, sign, &mut room_after);
-        let case = Case::new(Call::Arrive).buffer(session, &after).buffer(message, message).number(sc_eui);
+        let answer = calls::arrive(&mut after, image, sc_eui, uuid, sign, &mut room_after);
+        let case = Case::new(Call::Arrive).buffer(session, &after).image(image, image).number(sc_eui);
         self.messages += 1;
         self.case(case.buffer(uuid, uuid).buffer(sign, sign).buffer(room, &room_after), answer);
         (answer, after)
     }
 
-    pub fn begin(&mut self, session: &[u8], message: &[u8], room: &[u8]) -> (u64, Vec<u8>) {
+    pub fn begin(&mut self, session: &[u8], image: &Image, room: &[u8]) -> (u64, Vec<u8>) {
         let (mut after, mut room_after) = (session.to_vec(), room.to_vec());
-        let answer = calls::begin(&mut after, message, &mut room_after);
-        let case = Case::new(Call::Begin).buffer(session, &after).buffer(message, message);
+        let answer = calls::begin(&mut after, image, &mut room_after);
+        let case = Case::new(Call::Begin).buffer(session, &after).image(image, image);
         self.case(case.buffer(room, &room_after), answer);
         (answer, after)
     }

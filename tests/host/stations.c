@@ -42,16 +42,16 @@ void sim_break(struct sim *s)
 
 void sim_connect(struct sim *s)
 {
-    chz_message con = { .command = CHZ_CON, .has_version = 1, .version_major = 1, .sn_bs_uuid = { 7 } };
-    con.bs_eui = (uint64_t)(s - sims) + 1;
-    con.has_sn_bs_op_id = con.has_sn_sc_op_id = 1;
-    con.sn_bs_op_id = s->answered;
-    con.sn_sc_op_id = s->seen;
+    chz_message m = { .command = CHZ_CON, .con = { .has_version = 1, .version_major = 1, .sn_bs_uuid = { 7 } } };
+    m.con.bs_eui = (uint64_t)(s - sims) + 1;
+    m.con.has_sn_bs_op_id = m.con.has_sn_sc_op_id = 1;
+    m.con.sn_bs_op_id = s->answered;
+    m.con.sn_sc_op_id = s->seen;
     sim_break(s);
     s->connected = true;
     s->open = false;
     s->sent = 0;
-    say(s, con, false);
+    say(s, m, false);
 }
 
 void sim_send(struct sim *s, bool damaged)
@@ -59,7 +59,7 @@ void sim_send(struct sim *s, bool damaged)
     if (!s->connected || !s->open || s->sent == s->len || s->sent == AT_ONCE) return;
     chz_message m = { .command = CHZ_PING, .op_id = s->queue[s->sent].id };
     unsigned meter = s->queue[s->sent].meter, counter = s->queue[s->sent++].counter;
-    if (counter) m.command = CHZ_UL_DATA, m.ep_eui = meter + 1, m.packet_cnt = counter;
+    if (counter) m.command = CHZ_UL_DATA, m.ul_data = (chz_ul_data){ .packet = { .ep_eui = meter + 1, .packet_cnt = counter } };
     if (damaged) fate[meter][counter].damaged = true;
     say(s, m, damaged);
 }
@@ -90,7 +90,7 @@ void sim_listen(struct sim *s)
     if (chz_refused(frame)) return;
     if (chz_refused(chz_message_read(s->down.bytes + CHZ_FRAME_HEAD, chz_value(frame) - CHZ_FRAME_HEAD, &m))) abort();
     wire_drop(&s->down, chz_value(frame));
-    if (m.command == CHZ_CON_RSP) take_con_rsp(s, m.sn_resume);
+    if (m.command == CHZ_CON_RSP) take_con_rsp(s, m.con_rsp.sn_resume);
     if (m.command == CHZ_PING_RSP || m.command == CHZ_UL_DATA_RSP) take_rsp(s, &m);
     if (m.command == CHZ_PING && m.op_id < s->seen) s->seen = m.op_id;
     if (m.command == CHZ_PING) say_short(s, CHZ_PING_RSP, m.op_id);

@@ -36,6 +36,12 @@ static void perhaps_die(void)
     if (one_in(150)) longjmp(killed, 1);
 }
 
+static struct fate *fate_of(const chz_message *reading)
+{
+    const chz_packet *p = &reading->ul_data.packet;
+    return &fate[p->ep_eui - 1][p->packet_cnt];
+}
+
 bool outside_store(const struct change *c)
 {
     perhaps_die();
@@ -44,8 +50,8 @@ bool outside_store(const struct change *c)
     if (fails) return false;
     if (c->session) sessions[c->number] = *c->session;
     if (c->row != HOST_NO_ROW) rows[c->row] = (struct row){ host_meters.eui[c->row], host_meters.last[c->row], host_meters.heard[c->row] };
-    if (c->list == HOST_BILLS) fate[c->message->ep_eui - 1][c->message->packet_cnt].billed++;
-    if (c->list == HOST_LATE) fate[c->message->ep_eui - 1][c->message->packet_cnt].late++;
+    if (c->list == HOST_BILLS) fate_of(c->message)->billed++;
+    if (c->list == HOST_LATE) fate_of(c->message)->late++;
     perhaps_die();
     return !seems;
 }

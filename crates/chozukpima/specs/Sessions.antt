@@ -6,7 +6,8 @@ use lib.ListN.{length}
 use Rattle.octets.specs.Choice.{either}
 use Rattle.steps.specs.declared.Answer.{Answer}
 use Rattle.steps.specs.Called.{Called, arriveOn, beginOn}
-use Rattle.images.specs.Record.{recordSize, recordAt}
+use Rattle.layout.specs.Image.{messageSize}
+use Rattle.layout.specs.Taken.{messageAt}
 use Rattle.chozukpima.specs.Packed.{packed, refusedWith}
 
 abbrev pub stepAnswer : Answer → ℕ
@@ -24,10 +25,10 @@ returned n d room = record { answer = n; session = d; room = room }
 -- a message of another length is 15 before all others
 abbrev pub onMessage : List ℕ → List ℕ → List ℕ → Called → Returned
 onMessage m d room c =
-    either (eqb (length m) recordSize) (λ _. returned (stepAnswer (c .answer)) (c .session) (c .room)) (λ _. returned (refusedWith 15) d room)
+    either (eqb (length m) messageSize) (λ _. returned (stepAnswer (c .answer)) (c .session) (c .room)) (λ _. returned (refusedWith 15) d room)
 
-unfoldable pub arriveReturns : List ℕ → List ℕ → ℕ → List ℕ → List ℕ → List ℕ → Returned
-arriveReturns d m e u g room = onMessage m d room (arriveOn d (recordAt m) e u g room)
+unfoldable pub arriveReturns : List ℕ → List ℕ → List ℕ → ℕ → List ℕ → List ℕ → List ℕ → Returned
+arriveReturns d m lent e u g room = onMessage m d room (arriveOn d (messageAt m) lent e u g room)
 
-unfoldable pub beginReturns : List ℕ → List ℕ → List ℕ → Returned
-beginReturns d m room = onMessage m d room (beginOn d (recordAt m) room)
+unfoldable pub beginReturns : List ℕ → List ℕ → List ℕ → List ℕ → Returned
+beginReturns d m lent room = onMessage m d room (beginOn d (messageAt m) lent room)

@@ -1,46 +1,49 @@
-// Messages as images: read from a payload, written as a frame.
+// Messages where they lie: read from a payload, written as a frame.
 use crate::answer::pack;
 use crate::answer::refuse;
-use message::Told;
-use writing::Written;
+use record::Told;
+use writer::Written;
 ghost use mathlib.Core.Path.{_≡_};
 ghost use lib.ListN.{length};
-ghost use Rattle.writing.specs.Write.{refusalOf, lengthOf};
-ghost use Rattle.images.specs.Record.{recordSize, recordImage};
-ghost use Rattle.chozukpima.specs.Messages.{ReadInto, toldAnswer, imageAfter, writeAnswer, roomWritten};
+ghost use Rattle.writer.specs.Write.{refusalOf, lengthOf};
+ghost use Rattle.layout.specs.Image.{messageSize};
+ghost use Rattle.chozukpima.specs.Messages.{Put, put, toldInto, got, ReadInto, writeReturns};
 ghost use Rattle.chozukpima.specs.Packed.{packed};
 
-// A payload into a message: how many elements it has; 3 to 15, with the place for 4 to 10. An image of another length is 15 first.
+// A payload into a message and its data: how many elements it has; 3 to 15, with the place for 4 to 10. A message of another length, or too few
+// bytes for data, are 15 first.
 #[no_mangle]
-pub extern "C" fn chz_read(payload: &[u8], message: &mut [u8]) -> u64
-    ensures { λ r. ⌜ ReadInto (now (payload .entry)) (now (message .entry)) r (now (message .exit)) ⌝ }
+pub extern "C" fn chz_read(payload: &[u8], message: &mut [u8], lent: &mut [u8]) -> u64
+    ensures { λ r. ⌜ ReadInto (now (payload .entry)) (now (message .entry)) (now (lent .entry)) (got (put r (now (message .exit))) (now (lent .exit))) ⌝ }
 {
-    if message.len() != 584 {
+    if message.len() != layout::SIZE {
         return refuse(15);
     }
-    tell(reading::read(payload), message)
+    tell(reading::read(payload, lent), message)
 }
 
 fn tell(t: Told, message: &mut [u8]) -> u64
-    requires { ⌜ length (now message) ≡ recordSize ⌝ }
-    ensures { λ r. ⌜ (r ≡ toldAnswer t) × (now (message .exit) ≡ imageAfter t (now (message .entry))) ⌝ }
+    requires { ⌜ length (now message) ≡ messageSize ⌝ }
+    ensures { λ r. ⌜ _≡_ {A = Put} (put r (now (message .exit))) (toldInto t (now (message .entry))) ⌝ }
 {
     if t.refusal != 0 {
         return pack(t.refusal, 0, t.place);
     }
-    images::put_record(message, t.message);
-    pack(0, 0, t.count)
+    let count = t.count;
+    let m = t.message;
+    layout::put_message(message, m);
+    pack(0, 0, count)
 }
 
 // A message as a whole frame at the start of the room: its length; 15, 20.
 #[no_mangle]
-pub extern "C" fn chz_write(message: &[u8], room: &mut [u8]) -> u64
-    ensures { λ r. ⌜ (r ≡ writeAnswer (now (message .entry)) (now (room .entry))) × (now (room .exit) ≡ roomWritten (now (message .entry)) (now (room .entry))) ⌝ }
+pub extern "C" fn chz_write(message: &[u8], lent: &[u8], room: &mut [u8]) -> u64
+    ensures { λ r. ⌜ _≡_ {A = Put} (put r (now (room .exit))) (writeReturns (now (message .entry)) (now (lent .entry)) (now (room .entry))) ⌝ }
 {
-    if message.len() != 584 {
+    if message.len() != layout::SIZE {
         return refuse(15);
     }
-    written(writing::write(images::record_in(message), room))
+    written(writer::write(layout::message_in(message), lent, room))
 }
 
 fn written(w: Written) -> u64

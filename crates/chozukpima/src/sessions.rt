@@ -17,32 +17,33 @@ fn step_answer(a: Answer) -> u64
 pub extern "C" fn chz_arrive(
     session: &mut [u8],
     message: &[u8],
+    lent: &[u8],
     sc_eui: u64,
     uuid: &[u8],
     sign: &[u8],
     room: &mut [u8],
 ) -> u64
     ensures { λ r. ⌜ _≡_ {A = Returned} (returned r (now (session .exit)) (now (room .exit)))
-        (arriveReturns (now (session .entry)) (now (message .entry)) «sc_eui» (now (uuid .entry)) (now (sign .entry)) (now (room .entry))) ⌝ }
+        (arriveReturns (now (session .entry)) (now (message .entry)) (now (lent .entry)) «sc_eui» (now (uuid .entry)) (now (sign .entry)) (now (room .entry))) ⌝ }
 {
-    if message.len() != 584 {
+    if message.len() != layout::SIZE {
         return refuse(15);
     }
-    let m = images::record_in(message);
-    step_answer(steps::arrive(session, m, sc_eui, uuid, sign, room))
+    let m = layout::message_in(message);
+    step_answer(steps::arrive(session, m, lent, sc_eui, uuid, sign, room))
 }
 
 // The centre begins an operation: its message stands in the room under the ID issued; 15 for an image, 17, 18, 19, 15, 20.
 #[no_mangle]
-pub extern "C" fn chz_begin(session: &mut [u8], message: &[u8], room: &mut [u8]) -> u64
+pub extern "C" fn chz_begin(session: &mut [u8], message: &[u8], lent: &[u8], room: &mut [u8]) -> u64
     ensures { λ r. ⌜ _≡_ {A = Returned} (returned r (now (session .exit)) (now (room .exit)))
-        (beginReturns (now (session .entry)) (now (message .entry)) (now (room .entry))) ⌝ }
+        (beginReturns (now (session .entry)) (now (message .entry)) (now (lent .entry)) (now (room .entry))) ⌝ }
 {
-    if message.len() != 584 {
+    if message.len() != layout::SIZE {
         return refuse(15);
     }
-    let m = images::record_in(message);
-    step_answer(steps::begin(session, m, room))
+    let m = layout::message_in(message);
+    step_answer(steps::begin(session, m, lent, room))
 }
 
 // The connection is lost; 15.

@@ -5,17 +5,11 @@ use Prim.Native.Nat.{ℕ, zero, suc}
 use lib.IntN.{pos}
 use lib.Ieee.{fin}
 use lib.ListN.{take, drop}
-use Rattle.octets.specs.Choice.{either}
-use Rattle.names.specs.Names.{bytes, sameBytes}
-use Rattle.field.specs.Kind.{Value}
-use Rattle.field.specs.Cell.{Cell}
-use Rattle.message.specs.Record.{messageOf}
-use Rattle.message.specs.Reading.{Reading}
-use Rattle.message.specs.Meant.{refusedAt, toldOf}
-use Rattle.message.specs.declared.Message.{Message}
-use Rattle.writing.specs.declared.Written.the-variants as Written
+use Rattle.record.specs.declared.Body.{Body}
+use Rattle.record.specs.declared.Message.{Message}
+use Rattle.writer.specs.declared.Written.the-variants as Written
 use Rattle.examples.specs.Example.{Example}
-use Rattle.examples.specs.Example.Example.{size, answer, real, takes, writing}
+use Rattle.examples.specs.Example.Example.{size, read, refused, real, takes, writing}
 
 -- the payload P: a map of two pairs, `command` with `ping` and `opId` with 1
 abbrev pub P : List ℕ
@@ -38,43 +32,38 @@ abbrev pub nested-in : ℕ → List ℕ
 nested-in zero = 0x90 ∷ []
 nested-in (suc n) = 0x91 ∷ nested-in n
 
--- the record of a command that has nothing but the ID 1
-abbrev pub only-ID-1 : ℕ → Message
-only-ID-1 c = messageOf c (λ k. either (sameBytes (bytes "opId") k) (λ _. Cell.good (Value.number (pos 1))) (λ _. Cell.missing))
-
--- the record of ping 1
+-- the records of ping 1 and of pingRsp 1
 abbrev pub ping-1 : Message
-ping-1 = only-ID-1 9
+ping-1 = record { «op_id» = pos 1; body = Body.Bare 9 }
 
--- the record of pingRsp 1
 abbrev pub pingRsp-1 : Message
-pingRsp-1 = only-ID-1 10
+pingRsp-1 = record { «op_id» = pos 1; body = Body.Bare 10 }
 
 abbrev pub starred : List Example
 starred =
     -- P: payload, 20 bytes, ping 1, 5 elements
     size P 20 ∷
-    answer P (toldOf 5 (Reading.reads ping-1)) ∷
+    read P 5 ping-1 ∷
     -- P with 83 and A5 65 70 45 75 69 07 added: same record, 7 elements
-    answer (P-with (0xA5 ∷ 0x65 ∷ 0x70 ∷ 0x45 ∷ 0x75 ∷ 0x69 ∷ 0x07 ∷ [])) (toldOf 7 (Reading.reads ping-1)) ∷
+    read (P-with (0xA5 ∷ 0x65 ∷ 0x70 ∷ 0x45 ∷ 0x75 ∷ 0x69 ∷ 0x07 ∷ [])) 7 ping-1 ∷
     -- P with ID as D3 00 00 00 00 00 00 00 01: same record
-    answer (P-with-ID (0xD3 ∷ 0 ∷ 0 ∷ 0 ∷ 0 ∷ 0 ∷ 0 ∷ 0 ∷ 1 ∷ [])) (toldOf 5 (Reading.reads ping-1)) ∷
+    read (P-with-ID (0xD3 ∷ 0 ∷ 0 ∷ 0 ∷ 0 ∷ 0 ∷ 0 ∷ 0 ∷ 1 ∷ [])) 5 ping-1 ∷
     -- P with one byte added: 10, at the byte left over
-    answer (P ++ (0x00 ∷ [])) (refusedAt 10 20) ∷
+    refused (P ++ (0x00 ∷ [])) 10 20 ∷
     -- without its last: 4, where the ID should start
-    answer (take 19 P) (refusedAt 4 19) ∷
+    refused (take 19 P) 4 19 ∷
     -- 80: 11
-    answer (0x80 ∷ []) (refusedAt 11 0) ∷
+    refused (0x80 ∷ []) 11 0 ∷
     -- 90: 9
-    answer (0x90 ∷ []) (refusedAt 9 0) ∷
+    refused (0x90 ∷ []) 9 0 ∷
     -- C1: 5
-    answer (0xC1 ∷ []) (refusedAt 5 0) ∷
+    refused (0xC1 ∷ []) 5 0 ∷
     -- CA C2 C2 00 00 is −97, kept as C0 58 40 00 00 00 00 00
     real (0xCA ∷ 0xC2 ∷ 0xC2 ∷ 0 ∷ 0 ∷ []) (fin true 97 (pos 0)) (0xC0 ∷ 0x58 ∷ 0x40 ∷ 0 ∷ 0 ∷ 0 ∷ 0 ∷ 0 ∷ []) ∷
     -- an extra value of seven nested arrays, the innermost empty, passes: P's 5 elements, the key and the arrays
-    answer (P-with (extra (nested-in 6))) (toldOf 13 (Reading.reads ping-1)) ∷
+    read (P-with (extra (nested-in 6))) 13 ping-1 ∷
     -- eight: 6, where the innermost starts
-    answer (P-with (extra (nested-in 7))) (refusedAt 6 29) ∷
+    refused (P-with (extra (nested-in 7))) 6 29 ∷
     -- pingRsp 1 takes 23 bytes, 35 framed
     takes pingRsp-1 23 35 ∷
     -- 34 bytes of room: 20

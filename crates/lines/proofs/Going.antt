@@ -11,24 +11,22 @@ use Rattle.frame.specs.declared.Framed.{Framed}
 use Rattle.frame.specs.declared.Framed.the-variants.{Whole, Refused}
 use Rattle.frame.specs.Frame.{framedOf, payloadOf}
 use Rattle.frame.proofs.Format.{fits}
-use Rattle.message.specs.Meant.{refusedAt}
-use Rattle.message.specs.Cells.{toldAt}
-use Rattle.message.proofs.Read.{told-meant}
+use Rattle.record.specs.Meant.{refusedAt}
 use Rattle.reading.specs.declared.Unframed.{Unframed}
-use Rattle.reading.specs.Framed.{MeantFramed}
-use Rattle.reading.proofs.Framing.{refused-meant, whole-meant}
+use Rattle.lines.specs.Means.{MeansFramed}
+use Rattle.lines.proofs.Meaning.{toldAt, told-means, refused-means, whole-means}
 use Rattle.lines.specs.Turn.{Says, saysOf}
 use Rattle.lines.specs.Runs.{Said, Runs, whole}
 use Rattle.lines.proofs.Printing.{prints-once}
 use Rattle.lines.proofs.Running.{Way, said-way, pieces-print}
 
 -- something is read at the start of any bytes
-read-all : (h : List ℕ) → (u : Unframed) × MeantFramed h u
+read-all : (h : List ℕ) → (u : Unframed) × MeansFramed h u
 read-all h = go (framedOf h) refl
   where
-    go : (f : Framed) → framedOf h ≡ f → (u : Unframed) × MeantFramed h u
-    go (Refused k) e = (record { used = 0; told = refusedAt k 0 }, refused-meant h k e (refusedAt k 0) refl)
-    go (Whole k) e = let t = toldAt (payloadOf k h) in (record { used = 12 + k; told = t }, whole-meant h k e t (told-meant (payloadOf k h)))
+    go : (f : Framed) → framedOf h ≡ f → (u : Unframed) × MeansFramed h u
+    go (Refused k) e = (record { used = 0; told = refusedAt k 0 }, refused-means h k e)
+    go (Whole k) e = let t = toldAt (payloadOf k h) in (record { used = 12 + k; told = t }, whole-means h k e t (told-means (payloadOf k h)))
 
 said-all : (last : Bool) (n : ℕ) (h : List ℕ) → (x : Says) × Said last n h x
 said-all last n h = let r = read-all h in (saysOf last n (length h) (r .0), record { frame = r .0; meant = r .1; says = refl })

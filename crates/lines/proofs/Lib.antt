@@ -1,3 +1,4 @@
+pub mod Meaning
 pub mod Texts
 pub mod Made
 pub mod Turns

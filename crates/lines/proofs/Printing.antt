@@ -8,10 +8,9 @@ use Rattle.frame.specs.declared.Framed.{Framed}
 use Rattle.frame.specs.declared.Framed.the-variants.{Whole, Refused}
 use Rattle.frame.specs.Frame.{identifier, agrees, sizeOf, framedOf, payloadOf, usedOf, refusalOf}
 use Rattle.frame.proofs.Format.{refused-number, whole-size, fits}
-use Rattle.message.specs.declared.Told.{Told}
-use Rattle.message.specs.Meant.{Meant}
-use Rattle.message.specs.Cells.{toldAt}
-use Rattle.message.proofs.Read.{told-meant, meant-once}
+use Rattle.record.specs.declared.Told.{Told}
+use Rattle.lines.specs.Means.{Means}
+use Rattle.lines.proofs.Meaning.{toldAt, told-means, means-once}
 use Rattle.lines.specs.Lines.{lineOf, endLine, stopLines}
 use Rattle.lines.specs.Prints.{Prints}
 
@@ -26,10 +25,10 @@ empty-unframed e = let z : _≡_ {A = ℕ} 1 0 = sym (ap refusalOf empty-waits) 
 
 -- by the frame's answer
 module _ (n : ℕ) (s : List ℕ) (k : ℕ) where
-  pub framed-prints : framedOf s ≡ Whole k → (t : Told) (out : List ℕ) → Meant (payloadOf k s) t → Prints (suc n) (drop (12 + k) s) out → Prints n s (lineOf n t ++ out)
+  pub framed-prints : framedOf s ≡ Whole k → (t : Told) (out : List ℕ) → Means (payloadOf k s) t → Prints (suc n) (drop (12 + k) s) out → Prints n s (lineOf n t ++ out)
   framed-prints e t out m p =
       Prints.framed n s out t (ap refusalOf e)
-      (subst (λ (x : List ℕ). Meant x t) (ap (λ (j : ℕ). payloadOf j s) (sym (whole-size s k e))) m)
+      (subst (λ (x : List ℕ). Means x t) (ap (λ (j : ℕ). payloadOf j s) (sym (whole-size s k e))) m)
       (subst (λ (x : List ℕ). Prints (suc n) x out) (ap (λ (f : Framed). drop (usedOf f) s) (sym e)) p)
 
   pub stopped-prints : framedOf s ≡ Refused k → 0 < length s → Prints n s (stopLines n k)
@@ -44,7 +43,7 @@ prints-once n s a b (Prints.finished m) (Prints.framed k t out u e w p) = empty-
 prints-once n s a b (Prints.finished m) (Prints.stopped k t l e) = absurd (omega arith)
 prints-once n s a b (Prints.framed m t out u e w p) (Prints.finished k) = empty-unframed e
 prints-once n s a b (Prints.framed m t out u e w p) (Prints.framed k t′ out′ u′ e′ w′ p′) =
-    ap₂ (λ (x : Told) (o : List ℕ). lineOf n x ++ o) (meant-once (payloadOf (sizeOf s) s) u u′ w w′) (prints-once (suc n) (drop (usedOf (framedOf s)) s) out out′ p p′)
+    ap₂ (λ (x : Told) (o : List ℕ). lineOf n x ++ o) (means-once (payloadOf (sizeOf s) s) u u′ w w′) (prints-once (suc n) (drop (usedOf (framedOf s)) s) out out′ p p′)
 prints-once n s a b (Prints.framed m t out u e w p) (Prints.stopped k t′ l e′) = absurd (e′ e)
 prints-once n s a b (Prints.stopped m t l e) (Prints.finished k) = absurd (omega arith)
 prints-once n s a b (Prints.stopped m t l e) (Prints.framed k t′ out u e′ w p) = absurd (e e′)
@@ -63,7 +62,7 @@ prints-next most n (b ∷ s) h more = go (framedOf (b ∷ s)) refl
     go (Whole k) e =
         let t = toldAt (payloadOf k (b ∷ s)) in
         let r = more k (omega (arith, length-drop (12 + k) (b ∷ s), fits (b ∷ s) k e)) in
-        (lineOf n t ++ r .0, framed-prints n (b ∷ s) k e t (r .0) (told-meant (payloadOf k (b ∷ s))) (r .1))
+        (lineOf n t ++ r .0, framed-prints n (b ∷ s) k e t (r .0) (told-means (payloadOf k (b ∷ s))) (r .1))
 
 prints-none : (n : ℕ) (s : List ℕ) → length s ≤ 0 → Printed n s
 prints-none n [] h = (endLine n, Prints.finished n)

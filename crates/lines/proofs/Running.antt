@@ -14,11 +14,11 @@ use Rattle.octets.proofs.Places.{append-nil}
 use Rattle.frame.specs.declared.Framed.{Framed}
 use Rattle.frame.specs.declared.Framed.the-variants.{Whole, Refused}
 use Rattle.frame.specs.Frame.{framedOf, payloadOf, usedOf, refusalOf}
-use Rattle.message.specs.declared.Told.{Told}
-use Rattle.message.specs.Meant.{Meant}
+use Rattle.record.specs.declared.Told.{Told}
+use Rattle.lines.specs.Means.{Means}
 use Rattle.reading.specs.declared.Unframed.{Unframed}
-use Rattle.reading.specs.Framed.{MeantFramed}
-use Rattle.reading.proofs.Framing.{refused-told, whole-told}
+use Rattle.lines.specs.Means.{MeansFramed}
+use Rattle.lines.proofs.Meaning.{refused-told, whole-told}
 use Rattle.lines.specs.Lines.{lineOf, endLine, stopLines}
 use Rattle.lines.specs.Turn.{Says, saysRefused, saysOf}
 use Rattle.lines.specs.Prints.{Prints}
@@ -28,7 +28,7 @@ use Rattle.lines.proofs.Printing.{empty-waits, framed-prints, stopped-p
 
 -- what a turn says: a line, nothing yet, the end, or a stop
 pub data Way (last : Bool) (n : ℕ) (h : List ℕ) : Says → Type 0 where
-  line : (size : ℕ) (t : Told) → framedOf h ≡ Whole size → Meant (payloadOf size h) t → Way last n h (record { used = 12 + size; text = lineOf n t; ended = false })
+  line : (size : ℕ) (t : Told) → framedOf h ≡ Whole size → Means (payloadOf size h) t → Way last n h (record { used = 12 + size; text = lineOf n t; ended = false })
   wait : framedOf h ≡ Refused 1 → last ≡ false → Way last n h (record { used = 0; text = []; ended = false })
   end : h ≡ [] → last ≡ true → Way last n h (record { used = 0; text = endLine n; ended = true })
   stop : (k : ℕ) → 0 < length h → framedOf h ≡ Refused k → (k ≡ 1 → last ≡ true) → Way last n h (record { used = 0; text = stopLines n k; ended = true })
@@ -58,18 +58,18 @@ module _ (last : Bool) (n : ℕ) (h : List ℕ) where
           absurd (eqb-false k 1 q f)
       go false false false p q r = Way.stop k (some r) e (λ z. absurd (eqb-false k 1 q z))
 
-  module _ (u : Unframed) (m : MeantFramed h u) where
+  module _ (u : Unframed) (m : MeansFramed h u) where
     whole-says : (size : ℕ) → framedOf h ≡ Whole size → saysOf last n (length h) u ≡ record { used = 12 + size; text = lineOf n (u .told); ended = false }
     unfolding saysOf
     whole-says size e =
-        let d : u .used ≡ 12 + size = m .used ∙ ap usedOf e in
+        let d : u .used ≡ 12 + size = m .meant .used ∙ ap usedOf e in
         let f : eqb (u .used) 0 ≡ false = ne-eqb (u .used) 0 (λ z. omega arith) in
         simp f (ap (λ (k : ℕ). record { used = k; text = lineOf n (u .told); ended = false }) d)
 
     refused-says : (k : ℕ) → framedOf h ≡ Refused k → saysOf last n (length h) u ≡ saysRefused last n (length h) k
     unfolding saysOf
     refused-says k e =
-        let d : u .used ≡ 0 = m .used ∙ ap usedOf e in
+        let d : u .used ≡ 0 = m .meant .used ∙ ap usedOf e in
         simp (eq-eqb (u .used) 0 d) (ap (λ (t : Told). saysRefused last n (length h) (t .refusal)) (refused-told h k e u m))
 
     says-way : Way last n h (saysOf last n (length h) u)

@@ -13,7 +13,8 @@ use Rattle.octets.proofs.Writing.{put-upto}
 use Rattle.forms.specs.Put.{Put, put, putParts}
 use Rattle.forms.proofs.Putting.{one-in}
 use Rattle.reading.specs.declared.Unframed.{Unframed}
-use Rattle.reading.proofs.Settled.{read-framed-settled}
+use Rattle.record.specs.Record.{commandIn}
+use Rattle.lines.proofs.Meaning.{framed-once}
 use Rattle.lines.specs.declared.Took.{Took}
 use Rattle.lines.specs.Lines.{lineOf, endLine, stopLines}
 use Rattle.lines.specs.Turn.{Says, saysRefused, saysOf, Turned}
@@ -24,7 +25,7 @@ module _ (s : List ℕ) (last : Bool) (number : ℕ) (before : List ℕ) where
   -- what is said by two answers is the same
   says-same : (e f : List ℕ) (r q : Took) (a : Turned s last number before e r) (b : Turned s last number before f q)
       → saysOf last number (length s) (a .frame) ≡ saysOf last number (length s) (b .frame)
-  says-same e f r q a b = ap (saysOf last number (length s)) (read-framed-settled s (a .frame) (b .frame) (a .meant) (b .meant))
+  says-same e f r q a b = ap (saysOf last number (length s)) (framed-once s (a .frame) (b .frame) (a .meant) (b .meant))
 
   module _ (e f : List ℕ) (r q : Took) (a : Turned s last number before e r) (b : Turned s last number before f q) where
     puts-same : put e (r .length) ≡ put f (q .length)
@@ -58,7 +59,7 @@ says-few last number len u = go (eqb (u .used) 0)
   where
     go : (a : Bool) → length (either {A = Says} a (λ _. saysRefused last number len (u .told .refusal)) (λ _. record { used = u .used; text = lineOf number (u .told); ended = false }) .text) ≤ 80
     go true = refused-few last number len (u .told .refusal)
-    go false = few-line number (u .told .refusal) (u .told .message .command) (u .told .message .«op_id»)
+    go false = few-line number (u .told .refusal) (commandIn (u .told .message .body)) (u .told .message .«op_id»)
 
 module _ (s : List ℕ) (last : Bool) (number : ℕ) (before after : List ℕ) (r : Took) (a : Turned s last number before after r) (h : 80 ≤ length before) where
   abbrev text : List ℕ

@@ -12,7 +12,9 @@ use mir.ValLaws.{toZ-ofZ}
 use borrow.Author.Tests.{eq-eqb, ne-eqb}
 use Rattle.forms.specs.Put.{put, putParts}
 use Rattle.reading.specs.declared.Unframed.{Unframed}
+use Rattle.record.specs.Record.{commandIn}
 use Rattle.reading.specs.Framed.{MeantFramed}
+use Rattle.lines.specs.Means.{scratch, MeansFramed}
 use Rattle.lines.specs.declared.Took.{Took}
 use Rattle.lines.specs.Lines.{lineFor, endLine, stopLines}
 use Rattle.lines.specs.Turn.{saysRefused, saysOf, Shows, Turned}
@@ -44,19 +46,19 @@ module _ (last : Bool) (number len refusal : ℕ) (d : List ℕ) (w : Bool) (q :
 
 pub ruleset shown = (shows-wait, shows-end, shows-stop)
 
-module _ (s : List ℕ) (last : Bool) (number : ℕ) (d e : List ℕ) (u : Unframed) (m : MeantFramed s u) where
+module _ (s : List ℕ) (last : Bool) (number : ℕ) (d e : List ℕ) (u : Unframed) (lent : List ℕ) (m : MeantFramed s scratch u lent) where
   pub turned-refused : u .used ≡ 0 → (r : Took) → Shows (saysRefused last number (length s) (u .told .refusal)) d e r → Turned s last number d e r
   unfolding saysOf
-  turned-refused z r h = record { frame = u; meant = m; shows = simp (eq-eqb (u .used) 0 z) h }
+  turned-refused z r h = record { frame = u; meant = record { lent = lent; meant = m }; shows = simp (eq-eqb (u .used) 0 z) h }
 
-  pub turned-line : (u .used ≡ 0 → ⊥) → mag (u .told .message .«op_id») < 0x8000000000000000 → (n : ℕ)
-      → put e n ≡ putParts (lineFor number (u .told .refusal) (u .told .message .command) (toZ w64 (ofZ w64 (u .told .message .«op_id»))) ∷ []) (put d 0)
+  pub turned-line : (u .used ≡ 0 → ⊥) → mag (u .told .message .«op_id») < 0x8000000000000000 → (c : ℕ) → c ≡ commandIn (u .told .message .body) → (n : ℕ)
+      → put e n ≡ putParts (lineFor number (u .told .refusal) c (toZ w64 (ofZ w64 (u .told .message .«op_id»))) ∷ []) (put d 0)
       → Turned s last number d e (record { used = u .used; length = n; ended = false })
   unfolding saysOf
-  turned-line z l n h = record {
+  turned-line z l c q n h = record {
     frame = u;
-    meant = m;
-    shows = simp (ne-eqb (u .used) 0 z) (record { used = refl; ended = refl; printed = rw (toZ-ofZ w64 (u .told .message .«op_id») (record { sfits = l })) at h });
+    meant = record { lent = lent; meant = m };
+    shows = simp (ne-eqb (u .used) 0 z) (record { used = refl; ended = refl; printed = rw (toZ-ofZ w64 (u .told .message .«op_id») (record { sfits = l }), q) at h });
   }
 
 pub ruleset turned = (turned-refused, turned-line)

@@ -1,4 +1,5 @@
 pub mod Lines
+pub mod Means
 pub mod Turn
 pub mod Prints
 pub mod Runs

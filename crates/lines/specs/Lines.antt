@@ -7,7 +7,8 @@ use lib.IntN.{ℤ, pos, negsuc}
 use Rattle.octets.specs.Choice.{either}
 use Rattle.forms.specs.Shortest.{digitsOf}
 use Rattle.names.specs.Names.{bytes, commands, nameAt}
-use Rattle.message.specs.declared.Told.{Told}
+use Rattle.record.specs.declared.Told.{Told}
+use Rattle.record.specs.Record.{commandIn}
 
 -- a number below 2^64 has at most 20 decimal digits
 abbrev pub decimal : ℕ → List ℕ
@@ -34,7 +35,7 @@ lineFor number refusal command id = decimal number ++ outcome refusal command id
 
 -- the line of a whole frame
 abbrev pub lineOf : ℕ → Told → List ℕ
-lineOf number t = lineFor number (t .refusal) (t .message .command) (t .message .«op_id»)
+lineOf number t = lineFor number (t .refusal) (commandIn (t .message .body)) (t .message .«op_id»)
 
 -- the last line: so many whole frames
 unfoldable pub endLine : ℕ → List ℕ

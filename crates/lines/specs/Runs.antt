@@ -6,13 +6,13 @@ use mathlib.Core.Bool.{Bool, true, false}
 use mathlib.Core.List.{List, [], _∷_, _++_}
 use lib.ListN.{length, drop}
 use Rattle.reading.specs.declared.Unframed.{Unframed}
-use Rattle.reading.specs.Framed.{MeantFramed}
+use Rattle.lines.specs.Means.{MeansFramed}
 use Rattle.lines.specs.Turn.{Says, saysOf}
 
 -- what one turn says of the bytes at hand
 pub record Said (last : Bool) (number : ℕ) (hand : List ℕ) (x : Says) : Type 0 where
   pub frame : Unframed
-  pub meant : MeantFramed hand frame
+  pub meant : MeansFramed hand frame
   pub says : x ≡ saysOf last number (length hand) frame
 
 -- by whether the end was seen, the next frame's number, the bytes at hand and the pieces to come

@@ -8,7 +8,7 @@ use lib.ListN.{length}
 use Rattle.octets.specs.Choice.{either}
 use Rattle.forms.specs.Put.{Put, put, putParts}
 use Rattle.reading.specs.declared.Unframed.{Unframed}
-use Rattle.reading.specs.Framed.{MeantFramed}
+use Rattle.lines.specs.Means.{MeansFramed}
 use Rattle.lines.specs.declared.Took.{Took}
 use Rattle.lines.specs.Lines.{lineOf, endLine, stopLines}
 
@@ -39,5 +39,5 @@ pub record Shows (x : Says) (before after : List ℕ) (r : Took) : Type 0 where
 
 pub record Turned (s : List ℕ) (last : Bool) (number : ℕ) (before after : List ℕ) (r : Took) : Type 0 where
   pub frame : Unframed
-  pub meant : MeantFramed s frame
+  pub meant : MeansFramed s frame
   pub shows : Shows (saysOf last number (length s) frame) before after r

@@ -1,6 +1,7 @@
 // What the program prints of the frames that arrive, turn by turn.
 mod text;
 
+use record::command_in;
 use text::put_counted;
 use text::put_line;
 use text::put_stop;
@@ -24,19 +25,18 @@ pub struct Took {
 pub fn turn(bytes: &[u8], last: bool, number: u64, room: &mut [u8]) -> Took
     ensures { λ r. ⌜ Turned (now (bytes .entry)) last number (now (room .entry)) (now (room .exit)) r ⌝ }
 {
-    let u = reading::read_framed(bytes);
+    let mut lent = [0u8; 245];
+    let u = reading::read_framed(bytes, &mut lent);
     let used = u.used;
     let told = u.told;
+    let refusal = told.refusal;
     if used == 0 {
-        return refused(room, last, number, bytes.len(), told.refusal);
+        return refused(room, last, number, bytes.len(), refusal);
     }
-    let length = line(
-        room,
-        number,
-        told.refusal,
-        told.message.command,
-        told.message.op_id,
-    );
+    let m = told.message;
+    let op_id = m.op_id;
+    let b = m.body;
+    let length = line(room, number, refusal, command_in(b), op_id);
     Took {
         used: used,
         length: length,

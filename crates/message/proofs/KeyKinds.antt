@@ -1,8 +1,9 @@
 -- A key has one kind, `kindFor`, in all lists, and each list has a key once: each by one computed test over all lists. Assumes nothing.
-use mathlib.Core.Bool.{Bool, true, false, not, _&&_}
+use mathlib.Core.Path.{_≡_, sym}
+use mathlib.Core.Bool.{Bool, true, not, _&&_}
 use mathlib.Core.List.{List, [], _∷_, _++_}
 use Prim.Native.Nat.{ℕ, zero, suc}
-use lib.Dec.{T, eqb}
+use lib.Dec.{T, eqb, eqb→eq}
 use Rattle.octets.specs.Choice.{either}
 use Rattle.octets.proofs.Ranges.{both-left, both-right}
 use Rattle.names.specs.Names.{sameBytes}
@@ -40,11 +41,18 @@ abbrev pub agreed : List Field → Bool
 agreed [] = true
 agreed (f ∷ l) = eqb (kindFor (f .key)) (f .kind) && agreed l
 
+module _ (f : Field) (l : List Field) (a : T (agreed (f ∷ l))) where
+  pub first-agreed : f .kind ≡ kindFor (f .key)
+  first-agreed = sym (eqb→eq (kindFor (f .key)) (f .kind) (both-left (eqb (kindFor (f .key)) (f .kind)) (agreed l) a))
+
+  pub others-agreed : T (agreed l)
+  others-agreed = both-right (eqb (kindFor (f .key)) (f .kind)) (agreed l) a
+
 pub kinds-of : (c : ℕ) → T (agreed (fieldsOf c))
 unfolding kindFor lists
 kinds-of c = passes agreed tt c
 
--- the keys of a list are distinct
+-- a list has no such key; the keys of a list are distinct
 abbrev pub lacks : List Field → List ℕ → Bool
 lacks [] k = true
 lacks (f ∷ l) k = not (sameBytes (f .key) k) && lacks l k

@@ -1,5 +1,5 @@
 pub mod Stands
 pub mod Known
 pub mod Read
-pub mod Refusals
 pub mod KeyKinds
+pub mod Looked

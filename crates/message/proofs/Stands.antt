@@ -1,29 +1,23 @@
 -- The places that the code notes agree with what the outer map says of each key: nowhere, at one place with that element, or several times.
 -- By induction over the map's pairs: each pair is passed by the walk, its key is the text that stands there, and only its own slot changes.
 -- Assumes nothing.
-use mathlib.Core.Path.{_≡_, refl, sym, ap, ap₂, _∙_, subst}
+use mathlib.Core.Path.{_≡_, refl, sym, ap, _∙_}
 use mathlib.Core.Bool.{Bool, true, false}
-use mathlib.Core.List.{List, [], _∷_, _++_, append-assoc}
-use mathlib.Core.Option.{Option}
-use Prim.Native.Nat.{ℕ, zero, suc, _+_, _-_, _≤_, _<_, max}
+use mathlib.Core.List.{List, _∷_, _++_, append-assoc}
+use Prim.Native.Nat.{ℕ, zero, suc, _+_, _-_, _≤_, _<_}
 use native.Mathlib.Omega.{arith}
-use lib.Dec.{eqb}
-use lib.ListN.{length, getD, take, drop, set, replicate, length-append, length-set}
+use lib.ListN.{length, getD, drop, length-append, length-set}
 use lib.Seq.{getD-set-same, getD-set-other}
-use borrow.Author.Tests.{eq-eqb, ne-eqb, eqb-true, eqb-false}
+use borrow.Author.Tests.{eqb-true, eqb-false}
 use Rattle.octets.specs.Choice.{either}
 use Rattle.octets.proofs.Places.{here, next, after, after-le, part}
 use Rattle.element.specs.declared.Shape.the-variants.{Text}
-use Rattle.element.specs.declared.Step.{Step}
-use Rattle.element.specs.declared.Step.the-variants.{Next, Broken}
-use Rattle.element.specs.Lead.{headOf}
-use Rattle.element.specs.Form.{Role, elementOf}
+use Rattle.element.specs.Form.{Role}
 use Rattle.element.specs.At.{bodyFrom}
 use Rattle.element.specs.Tree.{Tree, Pairs, bytesOf, bytesOfPairs, countOf, countOfPairs, depthOf, depthOfPairs, pairsOf, shapeOfTree, Lawful, LawfulPairs}
 use Rattle.element.specs.Tree.Tree.{leaf, array, map}
 use Rattle.element.specs.Tree.Pairs.{end, pair}
-use Rattle.element.specs.Meaning.{Element, Fields, keyOf, meaningOf, meaningOfPairs}
-use Rattle.element.specs.Meaning.Fields.{no-field, field}
+use Rattle.element.specs.Meaning.{Element, keyOf, meaningOf, meaningOfPairs}
 use Rattle.element.proofs.Steps.{suits-value, suits-key}
 use Rattle.element.proofs.Passed.{pass-tree}
 use Rattle.names.specs.Names.{keys, sameBytes, nameAt, slotOf}
@@ -34,8 +28,8 @@ use Rattle.field.specs.Cell.{Said, cellOf}
 use Rattle.field.specs.At.{shallowAt, cellAt}
 use Rattle.field.proofs.Standing.{leaf-shallow, array-shallow, map-shallow}
 use Rattle.field.proofs.Trees.{cell-tree}
-use Rattle.message.specs.Reading.{again, saidFrom, saidOf}
-use Rattle.message.specs.Notes.{keyAt, noteOf, noted, notesOf, unnoted}
+use Rattle.message.specs.Reading.{again, saidFrom}
+use Rattle.message.specs.Notes.{keyAt, noteOf, noted, notesOf}
 
 -- a place says what is said: to every kind, and as a text
 pub data Agree (s : List ℕ) : ℕ → Said → Type 0 where

@@ -1,6 +1,5 @@
 pub mod Fields
 pub mod Record
 pub mod Reading
-pub mod Meant
 pub mod Notes
 pub mod Cells

@@ -1,8 +1,7 @@
 -- The same in the bytes: where the value of each key stands. The code goes by these; proofs/Stands ties them to elements.
-use Prim.Native.Nat.{ℕ, zero, suc, _+_, _-_}
-use mathlib.Core.Bool.{Bool, true, false}
-use mathlib.Core.List.{List, [], _∷_}
-use lib.ListN.{length, getD, take, drop, set, replicate}
+use Prim.Native.Nat.{ℕ, zero, suc, _-_}
+use mathlib.Core.List.{List}
+use lib.ListN.{getD, take, drop, set, replicate}
 use Rattle.element.specs.declared.Step.{Step}
 use Rattle.element.specs.declared.Step.the-variants.{Next, Broken}
 use Rattle.element.specs.Form.{Role, elementOf}

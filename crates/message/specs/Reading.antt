@@ -1,21 +1,32 @@
--- Document 01: after form come 11, 12, 13, 14, 15, in that order over the whole message. The reading goes by what the outer map
--- says of each key, so pair order never matters, and a key outside the command's list says nothing.
-use Prim.Native.Nat.{ℕ, zero, suc, _+_, _-_, _*_, _/_, max}
+-- Document 01: after form come 11, 12, 13, 14, 15, in that order over the whole message. A reading goes by what the outer map says of each key, so pair
+-- order never matters, and a key outside the command's list says nothing: these are the command's name, the cells of its fields and the gravest fault.
+use Prim.Native.Nat.{ℕ, zero, suc, _+_, _-_, _*_, max}
 use mathlib.Core.Bool.{Bool, true, false, _&&_, not}
 use mathlib.Core.List.{List, [], _∷_}
-use mathlib.Core.Option.{Option, some, none}
-use lib.Dec.{eqb, ltb}
+use mathlib.Core.Option.{Option, none}
 use Rattle.octets.specs.Choice.{either}
 use Rattle.element.specs.Meaning.{Element, Fields}
 use Rattle.element.specs.Meaning.Element.{null, truth, whole, single, double, text, octets, typed, list, table}
 use Rattle.element.specs.Meaning.Fields.{no-field, field}
-use Rattle.names.specs.Names.{bytes, sameBytes, commandOf}
-use Rattle.field.specs.Kind.{Value, kindOf}
+use Rattle.names.specs.Names.{bytes, sameBytes}
+use Rattle.field.specs.Kind.{kindOf}
 use Rattle.field.specs.Judge.{textOf}
-use Rattle.field.specs.Cell.{Said, Cell, cellOf, stateOf}
-use Rattle.message.specs.Fields.{Field, fieldsOf}
-use Rattle.message.specs.Record.{messageOf, markIn, here}
-use Rattle.message.specs.declared.Message.{Message}
+use Rattle.field.specs.Cell.{Said, Cell, cellOf}
+use Rattle.message.specs.Fields.{Field}
+use Rattle.message.specs.Record.{markIn}
+
+-- the pairs of an outer map
+abbrev pub outerOf : Element → Fields
+outerOf null = no-field
+outerOf (truth b) = no-field
+outerOf (whole z) = no-field
+outerOf (single n) = no-field
+outerOf (double n) = no-field
+outerOf (text d) = no-field
+outerOf (octets d) = no-field
+outerOf (typed t d) = no-field
+outerOf (list es) = no-field
+outerOf (table fs) = fs
 
 -- one more time with an element
 abbrev pub again : Element → Said → Said
@@ -30,6 +41,12 @@ saidFrom k x (field u e fs) = saidFrom k (either (sameBytes k u) (λ _. again e 
 
 abbrev pub saidOf : List ℕ → Fields → Said
 saidOf k fs = saidFrom k Said.absent fs
+
+-- 11: command missing, twice or not text
+abbrev pub commandSaid : Said → Option (List ℕ)
+commandSaid Said.absent = none
+commandSaid (Said.once e) = textOf e
+commandSaid Said.twice = none
 
 -- what each field of a list is worth
 unfoldable pub cellsOf : List Field → (List ℕ → Said) → List Cell
@@ -71,34 +88,3 @@ abbrev pub crossed : List Field → (List ℕ → Cell) → ℕ
 crossed l look =
     either (markIn (look (bytes "responseExp")) && not (markIn (look (bytes "dlOpen"))))
     (λ _. graded 1 (placeOf l (bytes "responseExp"))) (λ _. 0)
-
-pub data Reading : Type 0 where
-  refused : ℕ → Reading
-  reads : Message → Reading
-
--- 13, 14 or 15 by the gravest fault
-abbrev pub judged : ℕ → Message → Reading
-judged g m = either (eqb g 0) (λ _. Reading.reads m) (λ _. Reading.refused (16 - g / 64))
-
-abbrev pub readingBy : ℕ → List Field → List Cell → Reading
-readingBy c l cs =
-    judged (max (gravest 0 0 l cs) (crossed l (lookIn Cell.missing l cs))) (messageOf c (lookIn Cell.missing l cs))
-
--- a command by its number
-unfoldable pub readingAs : ℕ → (List ℕ → Said) → Reading
-readingAs c said = readingBy c (fieldsOf c) (cellsOf (fieldsOf c) said)
-
--- 12: not among the 21
-abbrev pub readingNamed : Option (List ℕ) → (List ℕ → Said) → Reading
-readingNamed none said = Reading.refused 11
-readingNamed (some n) said = either (ltb (commandOf n) 21) (λ _. readingAs (commandOf n) said) (λ _. Reading.refused 12)
-
--- 11: command missing, twice or not text
-abbrev pub commandSaid : Said → Option (List ℕ)
-commandSaid Said.absent = none
-commandSaid (Said.once e) = textOf e
-commandSaid Said.twice = none
-
--- the reading of an outer map's pairs
-unfoldable pub readingOf : Fields → Reading
-readingOf fs = readingNamed (commandSaid (saidOf (bytes "command") fs)) (λ k. saidOf k fs)

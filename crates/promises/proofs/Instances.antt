@@ -3,7 +3,7 @@
 use mathlib.Core.Path.{_≡_, refl, ap, _∙_}
 use mathlib.Core.Bool.{true, false}
 use mathlib.Core.List.{List, [], _∷_, _++_}
-use Prim.Native.Nat.{ℕ, _+_}
+use Prim.Native.Nat.{ℕ, _+_, _≤_}
 use Prim.Native.String.{String}
 use lib.Dec.{lit<}
 use lib.Ieee.{fin, ofBits}
@@ -16,50 +16,49 @@ use Rattle.element.specs.Tree.Tree.{leaf, array, map}
 use Rattle.element.specs.Tree.Trees.{none, some}
 use Rattle.element.specs.Tree.Pairs.{end, pair}
 use Rattle.element.specs.Meaning.{meaningOf, meaningOfPairs}
-use Rattle.names.specs.Names.{bytes, commands, placeIn, commandOf}
+use Rattle.names.specs.Names.{bytes, commands, placeIn, nameAt, commandOf}
 use Rattle.field.specs.Kind.{kinds, kindIn}
 use Rattle.field.specs.Judge.{octetsIn, judge}
+use Rattle.field.specs.Cell.{zero64}
 use Rattle.message.specs.Fields.{lists, listIn}
-use Rattle.message.specs.Record.{messageOf}
-use Rattle.message.specs.Reading.{Reading, saidFrom, cellsOf, gravest, lookIn, placeOf, readingAs, readingOf}
-use Rattle.message.specs.Meant.{Meant, toldOf}
-use Rattle.message.specs.Cells.{toldAt}
-use Rattle.message.specs.declared.Message.{Message}
-use Rattle.message.specs.declared.Told.{Told}
-use Rattle.message.proofs.Read.{told-meant}
-use Rattle.promises.specs.Steady.{Rearranged, Changed, Known, Says, Alike}
+use Rattle.message.specs.Reading.{saidFrom, cellsOf, gravest, lookIn, placeOf}
+use Rattle.record.specs.declared.Body.{Body}
+use Rattle.record.specs.declared.Message.{Message}
+use Rattle.record.specs.Record.{bodyIn, messageOf, lentKeys, dataOf}
+use Rattle.record.specs.Reading.{Reading, readingAs, readingOf}
+use Rattle.record.specs.Meant.{Answer, answerOf, lentSize, Meant}
+use Rattle.record.specs.Places.{answerAt}
+use Rattle.record.proofs.Answered.{answer-meant}
+use Rattle.promises.specs.Steady.{Rearranged, Changed, Known, Carries, Alike}
 use Rattle.promises.proofs.Steady.{steady}
 use Rattle.promises.proofs.Tested.{isLawful, isPayload, says}
 use Rattle.promises.proofs.Moves.{behind, turned, moved, put-in, turn, respelled}
 
 -- all that the theorem asks of two payloads
 pub record Instance (c : ℕ) (s t : List ℕ) (ps qs : Pairs) : Type 0 where
-  pub first : Says s ps
-  pub second : Says t qs
+  pub first : Carries s ps
+  pub second : Carries t qs
   pub known : Known c ps
   pub change : Changed c ps qs
 
--- both are read as one record, of which `shows` holds
-pub record BothRead (ps qs : Pairs) (shows : Message → Type 0) : Type 0 where
-  pub message : Message
-  pub first : readingOf (meaningOfPairs ps) ≡ Reading.reads message
-  pub second : readingOf (meaningOfPairs qs) ≡ Reading.reads message
-  pub shown : shows message
+-- both are read as this record with these bytes beside it
+abbrev pub BothRead : Pairs → Pairs → Message → List ℕ → Type 0
+BothRead ps qs m l = (readingOf (meaningOfPairs ps) ≡ Reading.reads m l) × (readingOf (meaningOfPairs qs) ≡ Reading.reads m l)
 
 module _ (c : ℕ) (s t : List ℕ) (ps qs : Pairs) (i : Instance c s t ps qs) where
   -- the theorem's conclusion
-  pub alike : (r q : Told) → Meant s r → Meant t q → Alike r q
-  alike r q = steady c s t ps qs r q (i .first) (i .second) (i .known) (i .change)
+  pub alike : (d : List ℕ) (r q : Answer) → Meant s d r → Meant t d q → Alike r q
+  alike d r q = steady c s t ps qs d r q (i .first) (i .second) (i .known) (i .change)
 
   -- and of the answers that there are: nothing is left to assume
-  pub told-alike : Alike (toldAt s) (toldAt t)
-  told-alike = alike (toldAt s) (toldAt t) (told-meant s) (told-meant t)
+  pub told-alike : (d : List ℕ) → Alike (answerAt s d) (answerAt t d)
+  told-alike d = alike d (answerAt s d) (answerAt t d) (answer-meant s d) (answer-meant t d)
 
--- what is answered to a payload that is read as a record: the record, and the count of its elements
-pub answered : (s : List ℕ) (ps : Pairs) (S : Says s ps) (m : Message) → readingOf (meaningOfPairs ps) ≡ Reading.reads m → (r : Told) → Meant s r
-    → r ≡ toldOf (countOf (map (S .lead) (S .size) ps)) (Reading.reads m)
+-- what is answered to a payload that is read as a record: the record with its bytes, and the count of its elements
+pub answered : (s : List ℕ) (ps : Pairs) (S : Carries s ps) (m : Message) (l : List ℕ) → readingOf (meaningOfPairs ps) ≡ Reading.reads m l
+    → (d : List ℕ) → lentSize ≤ length d → (r : Answer) → Meant s d r → r ≡ answerOf (countOf (map (S .lead) (S .size) ps)) d (Reading.reads m l)
 unfolding meaningOf
-answered s ps S m e r M = M .whole (map (S .lead) (S .size) ps) (S .payload) ∙ ap (toldOf (countOf (map (S .lead) (S .size) ps))) e
+answered s ps S m l e d h r M = M .whole h (map (S .lead) (S .size) ps) (S .payload) ∙ ap (answerOf (countOf (map (S .lead) (S .size) ps)) d) e
 
 -- a text with its length in the lead byte, and with a byte of length
 abbrev pub text : String → Tree
@@ -83,7 +82,7 @@ P = 0x82 ∷ 0xA7 ∷ 0x63 ∷ 0x6F ∷ 0x6D ∷ 0x6D ∷ 0x61 ∷ 0x6E ∷ 0x64
 abbrev pub ping : Pairs
 ping = pairs ((text "command", text "ping") ∷ (text "opId", lone 1) ∷ [])
 
-pub ping-said : Says P ping
+pub ping-said : Carries P ping
 unfolding isPayload isLawful headOf rowIn leadBytes bytesOf countOf depthOf pairsOf bigAt
 ping-said = says P 0x82 [] ping tt
 
@@ -107,18 +106,25 @@ added = record {
   change = Changed.rearranged (put-in 9 2 (text "epEui") (lone 7) ping tt);
 }
 
-pub added-alike : (r q : Told) → Meant P r → Meant P-added q → Alike r q
+pub added-alike : (d : List ℕ) (r q : Answer) → Meant P d r → Meant P-added d q → Alike r q
 added-alike = alike 9 P P-added ping ping-added added
 
--- the record is that of ping 1, and its epEui is 0: ping has none
-pub added-read : BothRead ping ping-added (λ m. (m .command ≡ 9) × (m .«op_id» ≡ pos 1) × (m .«ep_eui» ≡ 0))
-unfolding meaningOf rowIn leadBytes saidFrom commandOf placeIn commands lists listIn kinds kindIn judge cellsOf gravest lookIn placeOf messageOf readingAs readingOf
-added-read = record { message = _; first = refl; second = refl; shown = (refl, refl, refl) }
+-- the record of ping 1: an epEui is nothing to it
+abbrev pub ping-under : ℕ → Message
+ping-under n = record { «op_id» = pos n; body = Body.Bare 9 }
+
+abbrev pub ping-1 : Message
+ping-1 = ping-under 1
+
+pub added-read : BothRead ping ping-added ping-1 []
+unfolding meaningOf rowIn leadBytes saidFrom commandOf placeIn commands lists listIn kinds kindIn judge cellsOf gravest lookIn placeOf bodyIn messageOf lentKeys nameAt dataOf readingAs readingOf
+added-read = (refl, refl)
 
 -- it is answered with 5 and with 7 elements
-pub added-told : (r q : Told) → Meant P r → Meant P-added q → (r ≡ toldOf 5 (Reading.reads (added-read .message))) × (q ≡ toldOf 7 (Reading.reads (added-read .message)))
+pub added-told : (d : List ℕ) → lentSize ≤ length d → (r q : Answer) → Meant P d r → Meant P-added d q
+    → (r ≡ answerOf 5 d (Reading.reads ping-1 [])) × (q ≡ answerOf 7 d (Reading.reads ping-1 []))
 unfolding countOf
-added-told r q M N = (answered P ping (added .first) (added-read .message) (added-read .first) r M, answered P-added ping-added (added .second) (added-read .message) (added-read .second) q N)
+added-told d h r q M N = (answered P ping (added .first) ping-1 [] (added-read .0) d h r M, answered P-added ping-added (added .second) ping-1 [] (added-read .1) d h q N)
 
 -- Second: P with its ID as D3 00 00 00 00 00 00 00 01
 abbrev pub P-widened : List ℕ
@@ -136,17 +142,18 @@ widened = record {
   change = Changed.rearranged (respelled 9 ping ping-widened refl);
 }
 
-pub widened-alike : (r q : Told) → Meant P r → Meant P-widened q → Alike r q
+pub widened-alike : (d : List ℕ) (r q : Answer) → Meant P d r → Meant P-widened d q → Alike r q
 widened-alike = alike 9 P P-widened ping ping-widened widened
 
-pub widened-read : BothRead ping ping-widened (λ m. (m .command ≡ 9) × (m .«op_id» ≡ pos 1))
-unfolding bigAt meaningOf rowIn leadBytes saidFrom commandOf placeIn commands lists listIn kinds kindIn judge cellsOf gravest lookIn placeOf messageOf readingAs readingOf
-widened-read = record { message = _; first = refl; second = refl; shown = (refl, refl) }
+pub widened-read : BothRead ping ping-widened ping-1 []
+unfolding bigAt meaningOf rowIn leadBytes saidFrom commandOf placeIn commands lists listIn kinds kindIn judge cellsOf gravest lookIn placeOf bodyIn messageOf lentKeys nameAt dataOf readingAs readingOf
+widened-read = (refl, refl)
 
 -- both have 5 elements
-pub widened-told : (r q : Told) → Meant P r → Meant P-widened q → (r ≡ toldOf 5 (Reading.reads (widened-read .message))) × (q ≡ toldOf 5 (Reading.reads (widened-read .message)))
+pub widened-told : (d : List ℕ) → lentSize ≤ length d → (r q : Answer) → Meant P d r → Meant P-widened d q
+    → (r ≡ answerOf 5 d (Reading.reads ping-1 [])) × (q ≡ answerOf 5 d (Reading.reads ping-1 []))
 unfolding countOf
-widened-told r q M N = (answered P ping (widened .first) (widened-read .message) (widened-read .first) r M, answered P-widened ping-widened (widened .second) (widened-read .message) (widened-read .second) q N)
+widened-told d h r q M N = (answered P ping (widened .first) ping-1 [] (widened-read .0) d h r M, answered P-widened ping-widened (widened .second) ping-1 [] (widened-read .1) d h q N)
 
 -- Third: a ulData message with all its mandatory fields and its format once, as the integer 0
 abbrev pub U : List ℕ
@@ -253,22 +260,43 @@ changed = record {
   change = uplink-change;
 }
 
-pub changed-alike : (r q : Told) → Meant U r → Meant U-changed q → Alike r q
+pub changed-alike : (d : List ℕ) (r q : Answer) → Meant U d r → Meant U-changed d q → Alike r q
 changed-alike = alike 7 U U-changed uplink uplink-changed changed
 
 -- the nested epEui says nothing, and the format is 0 whether given or not
-abbrev pub Uplink : Message → Type 0
-Uplink m =
-    (m .command ≡ 7) × (m .«op_id» ≡ pos 2) × (m .«ep_eui» ≡ 0x0001_0203_0405_0607) × (m .«rx_time» ≡ 0x6500_0000) × (m .«packet_cnt» ≡ 5)
-    × (m .signal .snr ≡ fin false 11 (pos 0)) × (m .signal .rssi ≡ fin true 97 (pos 0))
-    × (m .«user_len» ≡ 3) × (take 3 (m .«user_data») ≡ 0x0A ∷ 0x0B ∷ 0x0C ∷ [])
-    × (m .format ≡ 0) × (m .«dl_open» ≡ true) × (m .«response_exp» ≡ false) × (m .«dl_ack» ≡ false)
+abbrev pub uplink-with : ℕ → Message
+uplink-with format = record {
+  «op_id» = pos 2;
+  body = Body.UlData (record {
+    packet = record {
+      «ep_eui» = 0x0001_0203_0405_0607;
+      «rx_time» = 0x6500_0000;
+      «rx_duration» = record { here = false; value = 0 };
+      «packet_cnt» = 5;
+      signal = record { snr = fin false 11 (pos 0); rssi = fin true 97 (pos 0); «eq_snr» = zero64; «has_eq_snr» = false };
+      «profile_len» = 0;
+      profile = record { high = 0; low = 0 };
+    };
+    «user_len» = 3;
+    format = format;
+    «dl_open» = true;
+    «response_exp» = false;
+    «dl_ack» = false;
+  });
+}
 
-pub changed-read : BothRead uplink uplink-changed Uplink
-unfolding bigAt ofBits meaningOf rowIn leadBytes saidFrom commandOf placeIn commands lists listIn kinds kindIn octetsIn judge cellsOf gravest lookIn placeOf messageOf readingAs readingOf
-changed-read = record { message = _; first = refl; second = refl; shown = (refl, refl, refl, refl, refl, refl, refl, refl, refl, refl, refl, refl, refl) }
+abbrev pub uplink-2 : Message
+uplink-2 = uplink-with 0
+
+abbrev pub user-data : List ℕ
+user-data = 0x0A ∷ 0x0B ∷ 0x0C ∷ []
+
+pub changed-read : BothRead uplink uplink-changed uplink-2 user-data
+unfolding bigAt ofBits meaningOf rowIn leadBytes saidFrom commandOf placeIn commands lists listIn kinds kindIn octetsIn judge cellsOf gravest lookIn placeOf bodyIn messageOf lentKeys nameAt dataOf readingAs readingOf
+changed-read = (refl, refl)
 
 -- 28 and 30 elements
-pub changed-told : (r q : Told) → Meant U r → Meant U-changed q → (r ≡ toldOf 28 (Reading.reads (changed-read .message))) × (q ≡ toldOf 30 (Reading.reads (changed-read .message)))
+pub changed-told : (d : List ℕ) → lentSize ≤ length d → (r q : Answer) → Meant U d r → Meant U-changed d q
+    → (r ≡ answerOf 28 d (Reading.reads uplink-2 user-data)) × (q ≡ answerOf 30 d (Reading.reads uplink-2 user-data))
 unfolding countOf
-changed-told r q M N = (answered U uplink (changed .first) (changed-read .message) (changed-read .first) r M, answered U-changed uplink-changed (changed .second) (changed-read .message) (changed-read .second) q N)
+changed-told d h r q M N = (answered U uplink (changed .first) uplink-2 user-data (changed-read .0) d h r M, answered U-changed uplink-changed (changed .second) uplink-2 user-data (changed-read .1) d h q N)

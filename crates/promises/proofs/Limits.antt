@@ -1,10 +1,10 @@
 -- The limits matter: changed forms of one ping, with 1,024 elements and with 1,025. The theorem speaks of the first; the second has lawful
--- bytes, no `Says` holds of it, and it is refused, so it is not read like the ping. By computation. Assumes nothing.
+-- bytes, no `Carries` holds of it, and it is refused, so it is not read like the ping. By computation. Assumes nothing.
 use mathlib.Core.Path.{_≡_, refl, ap}
 use mathlib.Core.List.{List, [], _∷_, _++_}
-use Prim.Native.Nat.{ℕ, zero, suc, _/_, _%_}
+use Prim.Native.Nat.{ℕ, zero, suc, _/_, _%_, _≤_}
 use native.Mathlib.Omega.{arith}
-use lib.ListN.{drop, replicate}
+use lib.ListN.{length, drop, replicate}
 use Rattle.octets.specs.Number.{bigAt}
 use Rattle.element.specs.declared.Walked.the-variants.{Refused}
 use Rattle.element.specs.Lead.{leadBytes, rowIn, headOf}
@@ -13,13 +13,12 @@ use Rattle.element.specs.Tree.{Tree, Trees, Pairs, bytesOf, countOf, depthOf, p
 use Rattle.element.specs.Tree.Tree.{array, map}
 use Rattle.element.specs.Tree.Trees.{none, some}
 use Rattle.message.specs.Fields.{lists, listIn}
-use Rattle.message.specs.Meant.{Meant}
-use Rattle.message.proofs.Read.{broken-told}
-use Rattle.message.specs.declared.Told.{Told}
-use Rattle.promises.specs.Steady.{Changed, Says, Alike}
+use Rattle.record.specs.Meant.{Answer, lentSize, Meant}
+use Rattle.record.proofs.Answered.{broken-told}
+use Rattle.promises.specs.Steady.{Changed, Carries, Alike}
 use Rattle.promises.proofs.Tested.{isLawful, lawful, isPayload, says}
 use Rattle.promises.proofs.Moves.{behind, put-in}
-use Rattle.promises.proofs.Instances.{Instance, alike, answered, text, lone, P, ping, ping-said, ping-known, added-read}
+use Rattle.promises.proofs.Instances.{Instance, alike, answered, text, lone, P, ping, ping-said, ping-known, ping-1, added-read}
 
 abbrev ones : ℕ → Trees
 ones zero = none
@@ -51,7 +50,7 @@ full = record {
   change = heaped-change 1017;
 }
 
-pub full-alike : (r q : Told) → Meant P r → Meant (P-heaped 1017) q → Alike r q
+pub full-alike : (d : List ℕ) (r q : Answer) → Meant P d r → Meant (P-heaped 1017) d q → Alike r q
 full-alike = alike 9 P (P-heaped 1017) ping (ping-heaped 1017) full
 
 -- one more: a lawful tree, whose bytes these are
@@ -64,7 +63,7 @@ unfolding bytesOf
 over-bytes = refl
 
 -- of 1,025 elements: no payload says it
-pub over-unsaid : (s : List ℕ) → Says s (ping-heaped 1018) → ⊥
+pub over-unsaid : (s : List ℕ) → Carries s (ping-heaped 1018) → ⊥
 unfolding countOf
 over-unsaid s S = omega (arith, S .payload .count)
 
@@ -74,8 +73,8 @@ unfolding walkOf elementOf times spanOf bodyOf faultOf headOf rowIn leadBytes bi
 over-refused = refl
 
 -- so without the limits the theorem would be false
-pub over-unlike : (r q : Told) → Meant P r → Meant (P-heaped 1018) q → Alike r q → ⊥
-over-unlike r q M N A =
-    let e : r .refusal ≡ 0 = ap (λ (x : Told). x .refusal) (answered P ping ping-said (added-read .message) (added-read .first) r M) in
-    let f : q .refusal ≡ 7 = ap (λ (x : Told). x .refusal) (broken-told (P-heaped 1018) q N 7 1042 over-refused) in
+pub over-unlike : (d : List ℕ) → lentSize ≤ length d → (r q : Answer) → Meant P d r → Meant (P-heaped 1018) d q → Alike r q → ⊥
+over-unlike d h r q M N A =
+    let e : r .told .refusal ≡ 0 = ap (λ (x : Answer). x .told .refusal) (answered P ping ping-said ping-1 [] (added-read .0) d h r M) in
+    let f : q .told .refusal ≡ 7 = ap (λ (x : Answer). x .told .refusal) (broken-told (P-heaped 1018) d q N h 7 1042 over-refused) in
     omega (arith, A .refusal)

@@ -2,14 +2,13 @@
 -- command's keys; a reading goes by what is said of these alone. A format of 0 left out changes what is said of format from 0 to nothing,
 -- and both are kept as 0. Assumes nothing.
 use mathlib.Core.Path.{_≡_, refl, sym, ap, ap₂, subst, fun-ext, _∙_}
-use mathlib.Core.Bool.{Bool, true, false, _&&_}
+use mathlib.Core.Bool.{Bool, true, false, not, _&&_}
 use mathlib.Core.List.{List, [], _∷_}
-use mathlib.Core.Option.{Option, some, none}
-use Prim.Native.Nat.{ℕ, zero, suc, _<_, max}
-use native.Mathlib.Omega.{arith}
+use Prim.Native.Nat.{ℕ, zero, suc, max}
 use lib.Dec.{T, ltb, leb, eqb, eqb→eq}
 use lib.IntN.{pos}
-use borrow.Author.Tests.{lt-ltb}
+use lib.ListN.{length}
+use borrow.Author.Tests.{lt-ltb, ltb-true, ltb-false}
 use Rattle.octets.specs.Choice.{either}
 use Rattle.element.specs.Tree.{Tree, Pairs, countOf}
 use Rattle.element.specs.Tree.Tree.{map}
@@ -17,19 +16,20 @@ use Rattle.element.specs.Tree.Pairs.{pair}
 use Rattle.element.specs.Meaning.{Element, Fields, keyOf, meaningOf, meaningOfPairs}
 use Rattle.element.specs.Meaning.Element.{whole}
 use Rattle.element.specs.Meaning.Fields.{no-field, field}
-use Rattle.octets.proofs.Ranges.{true-false, is-true, both-left, both-right}
-use Rattle.names.specs.Names.{bytes, sameBytes, commandOf}
+use Rattle.octets.proofs.Ranges.{true-false, is-true, is-false, both-left, both-right}
+use Rattle.names.specs.Names.{bytes, sameBytes, nameAt}
 use Rattle.names.proofs.Same.{same-eq, eq-same}
 use Rattle.field.specs.Kind.{Kind, Value, kinds, kindIn, kindOf}
 use Rattle.field.specs.Judge.{when, judge}
 use Rattle.field.specs.Cell.{Said, Cell, judged, cellOf}
 use Rattle.message.specs.Fields.{Field, lists, listIn, headed, fieldsOf}
-use Rattle.message.specs.Record.{wordIn, messageOf}
-use Rattle.message.specs.Reading.{Reading, again, saidFrom, saidOf, cellsOf, faultOf, graded, gravest, lookIn, crossed, commandSaid, readingBy, readingAs, readingNamed, readingOf}
-use Rattle.message.specs.Meant.{Meant, outerOf, toldOf}
-use Rattle.message.specs.declared.Message.{Message}
-use Rattle.message.specs.declared.Told.{Told}
-use Rattle.promises.specs.Steady.{Strange, Rearranged, Changed, Known, Says, Alike}
+use Rattle.message.specs.Record.{wordIn}
+use Rattle.message.specs.Reading.{again, saidFrom, saidOf, cellsOf, faultOf, graded, gravest, lookIn, crossed, commandSaid}
+use Rattle.record.specs.Record.{bytesIn, messageOf, lentKeys, dataOf}
+use Rattle.record.specs.Reading.{Reading, readingAs, readingOf}
+use Rattle.record.specs.Reading as Reading
+use Rattle.record.specs.Meant.{Answer, answerOf, Meant, lentSize}
+use Rattle.promises.specs.Steady.{Strange, Rearranged, Changed, Known, Carries, Alike}
 
 -- one pair more, for a key K
 abbrev saidWith : List ℕ → List ℕ → Element → Said → Said
@@ -262,6 +262,21 @@ alike-message c one two p w =
         go true s = refl
         go false s = p k s
 
+-- and the bytes beside it: format's are none
+abbrev noFormat : List (List ℕ) → Bool
+noFormat [] = true
+noFormat (n ∷ ns) = not (sameBytes (bytes "format") n) && noFormat ns
+
+no-format-in : (ns : List (List ℕ)) → T (noFormat ns) → (c : ℕ) → sameBytes (bytes "format") (nameAt ns c) ≡ false
+unfolding nameAt
+no-format-in [] t c = refl
+no-format-in (n ∷ ns) t zero = sym (is-false (sameBytes (bytes "format") n) (both-left (not (sameBytes (bytes "format") n)) (noFormat ns) t))
+no-format-in (n ∷ ns) t (suc c) = no-format-in ns (both-right (not (sameBytes (bytes "format") n)) (noFormat ns) t) c
+
+alike-data : (c : ℕ) (one two : List ℕ → Cell) → ((k : List ℕ) → sameBytes (bytes "format") k ≡ false → one k ≡ two k) → dataOf c one ≡ dataOf c two
+unfolding dataOf lentKeys
+alike-data c one two p = ap bytesIn (p (nameAt lentKeys c) (no-format-in lentKeys tt c))
+
 -- every list begins with command: one computed test over the lists
 abbrev starts : List Field → Bool
 starts [] = false
@@ -304,9 +319,10 @@ module _ (c : ℕ) (ps qs : Pairs) (change : Changed c ps qs) where
       let a = all-alike l (λ u s. s) in
       let look : (k : List ℕ) → sameBytes (bytes "format") k ≡ false → lookIn Cell.missing l (cellsOf l one) k ≡ lookIn Cell.missing l (cellsOf l two) k =
       λ k n. same-look one two k n l a Cell.missing Cell.missing refl in
-      ap₂ (λ (g : ℕ) (m : Message). Rattle.message.specs.Reading.judged g m)
-      (ap₂ max (same-gravest one two l (fields-fit c) a 0 0) (rw (look (bytes "responseExp") refl, look (bytes "dlOpen") refl)))
-      (alike-message c (lookIn Cell.missing l (cellsOf l one)) (lookIn Cell.missing l (cellsOf l two)) look (same-word one two (bytes "format") l a Cell.missing Cell.missing refl))
+      let x : crossed l (lookIn Cell.missing l (cellsOf l one)) ≡ crossed l (lookIn Cell.missing l (cellsOf l two)) = rw (look (bytes "responseExp") refl, look (bytes "dlOpen") refl) in
+      let m = alike-message c (lookIn Cell.missing l (cellsOf l one)) (lookIn Cell.missing l (cellsOf l two)) look (same-word one two (bytes "format") l a Cell.missing Cell.missing refl) in
+      let d = alike-data c (lookIn Cell.missing l (cellsOf l one)) (lookIn Cell.missing l (cellsOf l two)) look in
+      λ i. Reading.judged (max (same-gravest one two l (fields-fit c) a 0 0 i) (x i)) (m i) (d i)
 
   -- the command is said alike, and it is the same
   same-command : commandSaid (one (bytes "command")) ≡ commandSaid (two (bytes "command"))
@@ -323,15 +339,21 @@ module _ (c : ℕ) (ps qs : Pairs) (change : Changed c ps qs) where
       rw (← same-command, k .said, k .is, lt-ltb c 21 (k .ours)) same-as
 
 -- one reading told with two counts
-alike-told : (x y : ℕ) (a b : Reading) (r q : Told) → r ≡ toldOf x a → q ≡ toldOf y b → a ≡ b → Alike r q
-alike-told x y (Reading.refused n) b r q e f g = rw (e, f, ← g) (record { refusal = refl; place = refl; message = refl })
-alike-told x y (Reading.reads m) b r q e f g = rw (e, f, ← g) (record { refusal = refl; place = refl; message = refl })
+alike-told : (d : List ℕ) (x y : ℕ) (a b : Reading) (r q : Answer) → r ≡ answerOf x d a → q ≡ answerOf y d b → a ≡ b → Alike r q
+alike-told d x y (Reading.refused n) b r q e f g = rw (e, f, ← g) (record { refusal = refl; place = refl; message = refl; lent = refl })
+alike-told d x y (Reading.reads m l) b r q e f g = rw (e, f, ← g) (record { refusal = refl; place = refl; message = refl; lent = refl })
 
 -- Demand 3, as one sentence: two payloads within our limits, the second a changed form of the first, a message of a command that we know, are
--- read as the same record or the same refusal
-pub steady : (c : ℕ) (s t : List ℕ) (ps qs : Pairs) (r q : Told) → Says s ps → Says t qs → Known c ps → Changed c ps qs → Meant s r → Meant t q → Alike r q
+-- read as the same record, with the same bytes beside it, or the same refusal
+pub steady : (c : ℕ) (s t : List ℕ) (ps qs : Pairs) (d : List ℕ) (r q : Answer) → Carries s ps → Carries t qs → Known c ps → Changed c ps qs → Meant s d r → Meant t d q → Alike r q
 unfolding meaningOf
-steady c s t ps qs r q S T K C m n =
-    let a = m .whole (map (S .lead) (S .size) ps) (S .payload) in
-    let b = n .whole (map (T .lead) (T .size) qs) (T .payload) in
-    alike-told (countOf (map (S .lead) (S .size) ps)) (countOf (map (T .lead) (T .size) qs)) (readingOf (meaningOfPairs ps)) (readingOf (meaningOfPairs qs)) r q a b (same-reading c ps qs C K)
+steady c s t ps qs d r q S T K C m n = go (ltb (length d) lentSize) refl
+  where
+    go : (b : Bool) → ltb (length d) lentSize ≡ b → Alike r q
+    go true e =
+        let l = ltb-true (length d) lentSize e in
+        rw (m .short l, n .short l) (record { refusal = refl; place = refl; message = refl; lent = refl })
+    go false e =
+        let l = ltb-false (length d) lentSize e in
+        alike-told d (countOf (map (S .lead) (S .size) ps)) (countOf (map (T .lead) (T .size) qs)) (readingOf (meaningOfPairs ps)) (readingOf (meaningOfPairs qs)) r q
+        (m .whole l (map (S .lead) (S .size) ps) (S .payload)) (n .whole l (map (T .lead) (T .size) qs) (T .payload)) (same-reading c ps qs C K)

@@ -1,4 +1,4 @@
--- Trees and payloads by computed tests: what `Says` and `Strange` ask of written-out bytes is one computation. Each test is
+-- Trees and payloads by computed tests: what `Carries` and `Strange` ask of written-out bytes is one computation. Each test is
 -- sound by going through the tree. Assumes nothing.
 use mathlib.Core.Path.{_≡_, refl, sym}
 use mathlib.Core.Bool.{Bool, true, false, _&&_, not}
@@ -19,7 +19,7 @@ use Rattle.element.specs.Tree.Pairs.{end, pair}
 use Rattle.names.specs.Names.{sameBytes}
 use Rattle.names.proofs.Same.{same-eq}
 use Rattle.message.specs.Fields.{Field}
-use Rattle.promises.specs.Steady.{Strange, Says}
+use Rattle.promises.specs.Steady.{Strange, Carries}
 
 abbrev isArray : Shape → Bool
 isArray Never = false
@@ -149,7 +149,7 @@ payload s w t =
     }
 
 -- the payload s is an outer map of these pairs, with that head
-pub says : (s : List ℕ) (b : ℕ) (l : List ℕ) (ps : Pairs) → T (isPayload s (map b l ps)) → Says s ps
+pub says : (s : List ℕ) (b : ℕ) (l : List ℕ) (ps : Pairs) → T (isPayload s (map b l ps)) → Carries s ps
 says s b l ps t = record { lead = b; size = l; payload = payload s (map b l ps) t }
 
 -- none of these fields has the key

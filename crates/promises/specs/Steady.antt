@@ -1,9 +1,9 @@
 -- Demand 3: what makers may change without changing a reading, on trees and without a parser.
 use mathlib.Core.Path.{_≡_}
 use Prim.Native.Nat.{ℕ, _<_}
-use mathlib.Core.Bool.{Bool, true, false}
+use mathlib.Core.Bool.{false}
 use mathlib.Core.List.{List, [], _∷_}
-use mathlib.Core.Option.{Option, some}
+use mathlib.Core.Option.{some}
 use lib.IntN.{pos}
 use Rattle.element.specs.Tree.{Tree, Pairs, Payload}
 use Rattle.element.specs.Tree.Tree.{map}
@@ -14,7 +14,7 @@ use Rattle.names.specs.Names.{bytes, sameBytes, commandOf}
 use Rattle.field.specs.Cell.{Said}
 use Rattle.message.specs.Fields.{Field, fieldsOf}
 use Rattle.message.specs.Reading.{saidOf, commandSaid}
-use Rattle.message.specs.declared.Told.{Told}
+use Rattle.record.specs.Meant.{Answer}
 
 -- a key that none of these fields has
 abbrev pub Strange : List Field → List ℕ → Type 0
@@ -52,13 +52,14 @@ pub record Known (c : ℕ) (ps : Pairs) : Type 0 where
   pub ours : c < 21
 
 -- the payload s, within our limits, is an outer map of these pairs
-pub record Says (s : List ℕ) (ps : Pairs) : Type 0 where
+pub record Carries (s : List ℕ) (ps : Pairs) : Type 0 where
   pub lead : ℕ
   pub size : List ℕ
   pub payload : Payload s (map lead size ps)
 
--- the same record or the same refusal; the count of elements may differ
-pub record Alike (r q : Told) : Type 0 where
-  pub refusal : r .refusal ≡ q .refusal
-  pub place : r .place ≡ q .place
-  pub message : r .message ≡ q .message
+-- the same record and lent bytes, or the same refusal; the count of elements may differ
+pub record Alike (r q : Answer) : Type 0 where
+  pub refusal : r .told .refusal ≡ q .told .refusal
+  pub place : r .told .place ≡ q .told .place
+  pub message : r .told .message ≡ q .told .message
+  pub lent : r .lent ≡ q .lent

@@ -7,17 +7,16 @@ use Prim.Native.Nat.{ℕ, zero, suc, max, _<_}
 use native.Mathlib.Omega.{arith}
 use lib.Dec.{T, eqb, eqb→eq}
 use lib.Ieee.{Float, nan}
-use lib.ListN.{length, getD, replicate, getD-replicate}
+use lib.ListN.{length, getD}
 use Rattle.octets.specs.Choice.{either}
 use Rattle.octets.proofs.Ranges.{both-left, both-right}
-use Rattle.names.specs.Names.{keys, sameBytes, nameAt, slotOf}
+use Rattle.names.specs.Names.{sameBytes, slotOf}
 use Rattle.names.proofs.Same.{same-eq}
-use Rattle.names.proofs.Places.{slot-key}
+use Rattle.names.proofs.Places.{slot-small}
 use Rattle.field.specs.Kind.{Kind, kindOf}
 use Rattle.field.specs.Cell.{Cell, zero64}
 use Rattle.field.specs.At.{cellAt}
 use Rattle.message.specs.Fields.{Field, fieldsOf}
-use Rattle.message.specs.Record.{blank}
 use Rattle.message.specs.Reading.{faultOf, graded, gravest, lookIn}
 use Rattle.message.specs.Cells.{cellsAt}
 use Rattle.grades.specs.Codes.{codeOf, slotIn}
@@ -26,10 +25,8 @@ use Rattle.grades.proofs.Codes.{slot-in, known-fields}
 use Rattle.grades.proofs.Stores.{last}
 use Rattle.grades.proofs.Cells.{grade-is, words-is, figures-is, own-last-is, figures-length}
 use Rattle.grades.proofs.Faultless.{none-first}
-use Rattle.records.specs.Built.{builtOf}
 use Rattle.message.proofs.KeyKinds.{kindFor, agreed, kinds-of}
-use Rattle.records.proofs.Filled.{Kept, Filled, kept-cell}
-use Rattle.records.proofs.Same.{built-is}
+use Rattle.builder.proofs.Filled.{Kept, Filled, kept-cell}
 use Rattle.reading.proofs.Across.{lookAt}
 use Rattle.reading.proofs.User.{user-filled}
 
@@ -71,25 +68,13 @@ module _ (s places : List ℕ) (c : ℕ) where
 
   pub filled : gradedFrom s places ungraded 0 (map codeOf (fieldsOf c)) .grade ≡ 0 → filledBy
   filled e = record {
-    word-is = λ k h. rw (slot-key k h) at (words-is s places (fieldsOf c) (known-fields c) (nameAt keys k));
-    figure-is = λ k h.
-        any-default (gradedFrom s places ungraded 0 (map codeOf (fieldsOf c)) .figures) k nan zero64 (omega (arith, figures-length s places (map codeOf (fieldsOf c))))
-        ∙ (rw (slot-key k h) at (figures-is s places (fieldsOf c) (known-fields c) (nameAt keys k)));
+    word-is = λ u. words-is s places (fieldsOf c) (known-fields c) u;
+    figure-is = λ u.
+        any-default (gradedFrom s places ungraded 0 (map codeOf (fieldsOf c)) .figures) (slotOf u) nan zero64
+        (omega (arith, slot-small u, figures-length s places (map codeOf (fieldsOf c))))
+        ∙ figures-is s places (fieldsOf c) (known-fields c) u;
     user-is = user-filled s places c e;
-    kept = λ k h.
-        subst (λ (p : ℕ). Kept s (kindOf (kindFor (nameAt keys k))) p (lookAt s places c (nameAt keys k)))
-        (sym (rw (slot-key k h) at (own-last-is s places (fieldsOf c) (known-fields c) (nameAt keys k))))
-        (kept-from s places (nameAt keys k) (fieldsOf c) (kinds-of c) 0 Cell.missing 0 0 (sym (grade-is s places (fieldsOf c)) ∙ e) Kept.nowhere);
+    kept = λ u.
+        subst (λ (p : ℕ). Kept s (kindOf (kindFor u)) p (lookAt s places c u)) (sym (own-last-is s places (fieldsOf c) (known-fields c) u))
+        (kept-from s places u (fieldsOf c) (kinds-of c) 0 Cell.missing 0 0 (sym (grade-is s places (fieldsOf c)) ∙ e) Kept.nowhere);
   }
-
--- no field at all
-nothing-filled : (s : List ℕ) → Filled s (replicate 64 0) (replicate 64 0) (replicate 64 zero64) (replicate 245 0) (λ k. Cell.missing)
-nothing-filled s = record {
-  word-is = λ k h. getD-replicate {A = ℕ} 64 k 0 0 (omega arith);
-  figure-is = λ k h. getD-replicate 64 k zero64 nan (omega arith);
-  user-is = refl;
-  kept = λ k h. rw (getD-replicate {A = ℕ} 64 k 0 0 (omega arith)) Kept.nowhere;
-}
-
-pub built-blank : (s : List ℕ) → builtOf s (replicate 64 0) (replicate 64 0) (replicate 64 zero64) (replicate 245 0) 0 ≡ blank
-built-blank s = built-is s (replicate 64 0) (replicate 64 0) (replicate 64 zero64) (replicate 245 0) (λ k. Cell.missing) (nothing-filled s) 0

@@ -8,36 +8,39 @@ use Rattle.frame.specs.declared.Framed.{Framed}
 use Rattle.frame.specs.declared.Framed.the-variants.{Whole, Refused}
 use Rattle.frame.specs.Frame.{sizeOf, framedOf, payloadOf, refusalOf, usedOf}
 use Rattle.frame.proofs.Format.{refused-number, whole-size}
-use Rattle.message.specs.declared.Told.{Told}
-use Rattle.message.specs.Meant.{Meant, refusedAt}
+use Rattle.record.specs.declared.Told.{Told}
+use Rattle.record.specs.Meant.{Answer, refusedAt, refuses, Meant}
 use Rattle.reading.specs.declared.Unframed.{Unframed}
-use Rattle.reading.specs.Framed.{MeantFramed}
+use Rattle.reading.specs.Framed.{answerIn, MeantFramed}
 
-module _ (s : List ℕ) (k : ℕ) where
+module _ (s d : List ℕ) (k : ℕ) where
   module _ (e : framedOf s ≡ Refused k) where
     not-whole : refusalOf (framedOf s) ≡ 0 → ⊥
     not-whole z = let i : k ≡ 0 = sym (ap refusalOf e) ∙ z in let h = refused-number s k e in omega arith
 
-    pub refused-meant : (t : Told) → t ≡ refusedAt k 0 → MeantFramed s (record { used = 0; told = t })
+    same-refusal : refuses (refusalOf (framedOf s)) 0 d ≡ refuses k 0 d
+    same-refusal = ap (λ (x : Framed). refuses (refusalOf x) 0 d) e
+
+    pub refused-meant : (t : Told) → t ≡ refusedAt k 0 → MeantFramed s d (record { used = 0; told = t }) d
     refused-meant t q = record {
       used = sym (ap usedOf e);
-      refused = λ z. q ∙ sym (ap (λ (x : Framed). refusedAt (refusalOf x) 0) e);
+      refused = λ z. ap (λ (x : Told). record { told = x; lent = d }) q ∙ sym same-refusal;
       whole = λ z. absurd (not-whole z);
     }
 
-    pub refused-told : (r : Unframed) → MeantFramed s r → r .told ≡ refusedAt k 0
-    refused-told r m = m .refused not-whole ∙ ap (λ (x : Framed). refusedAt (refusalOf x) 0) e
+    pub refused-told : (r : Unframed) (l : List ℕ) → MeantFramed s d r l → answerIn r l ≡ refuses k 0 d
+    refused-told r l m = m .refused not-whole ∙ same-refusal
 
   module _ (e : framedOf s ≡ Whole k) where
     same-payload : payloadOf (sizeOf s) s ≡ payloadOf k s
     same-payload = ap (λ (n : ℕ). payloadOf n s) (whole-size s k e)
 
-    pub whole-meant : (t : Told) → Meant (payloadOf k s) t → MeantFramed s (record { used = 12 + k; told = t })
-    whole-meant t m = record {
+    pub whole-meant : (t : Told) (l : List ℕ) → Meant (payloadOf k s) d (record { told = t; lent = l }) → MeantFramed s d (record { used = 12 + k; told = t }) l
+    whole-meant t l m = record {
       used = sym (ap usedOf e);
       refused = λ z. absurd (z (ap refusalOf e));
-      whole = λ z. subst (λ (p : List ℕ). Meant p t) (sym same-payload) m;
+      whole = λ z. subst (λ (p : List ℕ). Meant p d (record { told = t; lent = l })) (sym same-payload) m;
     }
 
-    pub whole-told : (r : Unframed) → MeantFramed s r → Meant (payloadOf k s) (r .told)
-    whole-told r m = subst (λ (p : List ℕ). Meant p (r .told)) same-payload (m .whole (ap refusalOf e))
+    pub whole-told : (r : Unframed) (l : List ℕ) → MeantFramed s d r l → Meant (payloadOf k s) d (answerIn r l)
+    whole-told r l m = subst (λ (p : List ℕ). Meant p d (answerIn r l)) same-payload (m .whole (ap refusalOf e))

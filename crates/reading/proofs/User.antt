@@ -3,21 +3,16 @@
 use mathlib.Core.Path.{_≡_, refl, sym, ap, subst, _∙_}
 use mathlib.Core.Bool.{Bool, true, false, _&&_, not}
 use mathlib.Core.List.{List, [], _∷_, map}
-use mathlib.Core.Option.{Option, some}
-use Prim.Native.Nat.{ℕ, zero, suc, max, _<_}
-use native.Mathlib.Omega.{arith}
+use Prim.Native.Nat.{ℕ, zero, suc, max}
 use lib.Dec.{T, eqb, eqb→eq, lit≤}
 use lib.ListN.{length, getD, replicate}
-use borrow.Author.Tests.{lt-ltb, ne-eqb, eq-eqb}
 use Rattle.octets.specs.Choice.{either}
 use Rattle.octets.proofs.Ranges.{both-left, both-right}
 use Rattle.names.specs.Names.{bytes, sameBytes, slotOf}
-use Rattle.field.specs.Kind.{Kind, kinds, kindIn as kindAmong, kindOf, Value}
+use Rattle.field.specs.Kind.{Kind, kinds, kindIn as kindAmong, kindOf}
 use Rattle.field.specs.Cell.{Cell}
-use Rattle.field.specs.Judge.{judge}
-use Rattle.field.specs.At.{shallowAt, cellAt, filled}
+use Rattle.field.specs.At.{cellAt}
 use Rattle.field.specs.Into.{readInto}
-use Rattle.field.proofs.Intos.{into-missing, into-good}
 use Rattle.message.specs.Fields.{Field, lists, listIn, fieldsOf}
 use Rattle.message.specs.Record.{stringIn}
 use Rattle.message.specs.Reading.{faultOf, graded, gravest, lookIn}
@@ -27,9 +22,8 @@ use Rattle.grades.specs.Graded.{userBy, ungraded, gradedFrom}
 use Rattle.grades.proofs.Codes.{slot-in, kind-in}
 use Rattle.grades.proofs.Cells.{userFrom, user-stored, grade-is}
 use Rattle.grades.proofs.Faultless.{none-first}
-use Rattle.records.specs.Built.{foundAt}
-use Rattle.records.proofs.Filled.{Kept, kept-cell}
-use Rattle.records.proofs.Strings.{Room, string-kept}
+use Rattle.builder.proofs.Filled.{Kept, kept-cell}
+use Rattle.builder.proofs.Strings.{octets-kept}
 use Rattle.reading.proofs.Across.{lookAt}
 
 abbrev zeros : List ℕ
@@ -52,20 +46,6 @@ user-only (suc (suc (suc (suc (suc zero))))) = tt
 user-only (suc (suc (suc (suc (suc (suc zero)))))) = tt
 user-only (suc (suc (suc (suc (suc (suc (suc zero))))))) = tt
 user-only (suc (suc (suc (suc (suc (suc (suc (suc c)))))))) = tt
-
--- one cell
-module _ (s : List ℕ) where
-  found-user : (p : ℕ) (v : Value) → Kept s (Kind.arrays 0 245) p (Cell.good v) → cellAt (Kind.arrays 0 245) s p ≡ Cell.good v → readInto s p zeros ≡ stringIn 245 (Cell.good v)
-  unfolding foundAt
-  found-user _ _ (Kept.somewhere p v h j) e =
-      let i : foundAt s (Kind.arrays 0 245) p ≡ judge (Kind.arrays 0 245) (shallowAt s p) = simp (lt-ltb 0 p (omega arith)) in
-      let f : foundAt s (Kind.arrays 0 245) p ≡ some v = i ∙ j in
-      into-good s p zeros v e ∙ ap (λ (o : Option Value). filled o zeros) (sym f)
-      ∙ string-kept s (Room.octets 0 245 245 (lit≤ tt)) (Kept.somewhere p v h j)
-
-  user-cell : (p : ℕ) (c : Cell) → cellAt (Kind.arrays 0 245) s p ≡ c → Kept s (Kind.arrays 0 245) p c → readInto s p zeros ≡ stringIn 245 c
-  user-cell _ _ e Kept.nowhere = into-missing s zeros
-  user-cell _ _ e (Kept.somewhere p v h j) = found-user p v (Kept.somewhere p v h j) e
 
 module _ (s places : List ℕ) where
   -- a field of another kind leaves the room
@@ -121,9 +101,8 @@ module _ (s places : List ℕ) where
   own-field f t z =
       let p = getD places (slotOf (f .key)) 0 in
       let e : f .kind ≡ 14 = eqb→eq (f .kind) 14 t in
-      let q : cellAt (Kind.arrays 0 245) s p ≡ cellBy f = ap (λ (n : ℕ). cellAt (kindOf n) s p) (sym e) in
       let K : Kept s (Kind.arrays 0 245) p (cellBy f) = subst (λ (n : ℕ). Kept s (kindOf n) p (cellBy f)) e (kept-cell s (kindOf (f .kind)) (f .must) p z) in
-      user-kind f t ∙ user-cell s p (cellBy f) q K
+      user-kind f t ∙ octets-kept 0 245 245 (lit≤ tt) K
 
   fills-step : (f : Field) (l : List Field) (b : Bool)
       → T (either b (λ _. not false && (eqb (f .kind) 14 && onlyUser true l)) (λ _. not (eqb (f .kind) 14) && onlyUser false l))

@@ -86,8 +86,5 @@ by-sort (version a b c) h l t =
     (leb→le b 65535 (both-left (leb b 65535) (leb c 65535) u)) (leb→le c 65535 (both-right (leb b 65535) (leb c 65535) u)))
 by-sort (word d) h l t = rw (text-means d l)
 
-pub reads-back : (k : Kind) (v : Value) → T (isHeld k) → length (stringOf v) < 2 ^ 32 → T (within k v) → judge k (meaningOf (treeOf k v)) ≡ some (keptBy k v)
-reads-back k v h l t = by-sort (sorted k v t) h l (bounds k v t)
-
 pub back-of : (n : ℕ) (v : Value) → length (stringOf v) < 2 ^ 32 → T (within (kindOf n) v) → judge (kindOf n) (meaningOf (treeOf (kindOf n) v)) ≡ some (keptBy (kindOf n) v)
-back-of n v l t = reads-back (kindOf n) v (kinds-held n) l t
+back-of n v l t = by-sort (sorted (kindOf n) v t) (kinds-held n) l (bounds (kindOf n) v t)

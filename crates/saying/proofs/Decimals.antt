@@ -32,7 +32,7 @@ decimal (suc most) n h =
     (λ g. subst (λ (m : ℕ). Decimal m (digitsOf (suc most) (n / 10) ++ ((0x30 + n % 10) ∷ []))) e
     (then-one (n / 10) (n % 10) (digitsOf (suc most) (n / 10)) (omega arith) (omega arith) (decimal most (n / 10) (omega arith))))
 
-pub digits-length : (most n : ℕ) → length (digitsOf most n) ≤ most
+digits-length : (most n : ℕ) → length (digitsOf most n) ≤ most
 unfolding digitsOf
 digits-length zero n = omega arith
 digits-length (suc most) n =

@@ -76,7 +76,7 @@ double-fits : (f : Format) (n : ℕ) → T (holds binary64 (ofBits f n))
 double-fits binary32 n = fits-widens (ofBits binary32 n) (ofBits-fits binary32 n)
 double-fits binary64 n = ofBits-fits binary64 n
 
-pub bits-real : (f : Format) (n : ℕ) → T (finite f n) → T (isReal (ofBits f n))
+bits-real : (f : Format) (n : ℕ) → T (finite f n) → T (isReal (ofBits f n))
 bits-real f n t =
     let x = ofBits f n in
     let h = double-fits f n in

@@ -1,29 +1,26 @@
 -- What the pairs that are written say of each key: for a list whose keys are distinct, each field's cell is that of what the record says of
 -- it, and a key of no field has none. By induction over the list, with what was said before it. Assumes nothing.
-use mathlib.Core.Path.{_≡_, refl, sym, ap, ap₂, subst, _∙_}
-use mathlib.Core.Bool.{Bool, true, false, not, _&&_, _||_}
+use mathlib.Core.Path.{_≡_, refl, sym, ap, ap₂, _∙_}
+use mathlib.Core.Bool.{Bool, true, false, not}
 use mathlib.Core.List.{List, [], _∷_}
 use mathlib.Core.Option.{Option, some, none}
-use Prim.Native.Nat.{ℕ, zero, suc, max}
-use native.Mathlib.Omega.{arith}
-use lib.Dec.{T, eqb, eqb→eq}
+use Prim.Native.Nat.{ℕ}
+use lib.Dec.{T}
 use Rattle.octets.specs.Choice.{either}
-use Rattle.octets.proofs.Ranges.{both-left, both-right, is-true, is-false, true-false}
-use Rattle.element.specs.Tree.{Pairs}
+use Rattle.octets.proofs.Ranges.{both-left, both-right, is-false, true-false}
 use Rattle.element.specs.Meaning.{Element, Fields, meaningOf, meaningOfPairs}
 use Rattle.forms.specs.Shortest.{textTree}
 use Rattle.names.specs.Names.{sameBytes}
 use Rattle.names.proofs.Same.{same-refl, same-eq}
 use Rattle.field.specs.Kind.{Value, kindOf}
-use Rattle.field.specs.Judge.{judge}
-use Rattle.field.specs.Cell.{Said, Cell, judged, cellOf}
+use Rattle.field.specs.Cell.{Said, Cell, cellOf}
 use Rattle.message.specs.Fields.{Field}
-use Rattle.message.specs.Reading.{again, saidFrom, saidOf, cellsOf, faultOf, graded, gravest, lookIn}
-use Rattle.message.proofs.KeyKinds.{lacks, apart, kindFor, agreed}
+use Rattle.message.specs.Reading.{again, saidFrom, saidOf, cellsOf}
+use Rattle.message.proofs.KeyKinds.{lacks, apart}
 use Rattle.saying.specs.Written.{treeOf, pairBy, pairsFrom}
 
 -- the test of bytes, the other way round
-pub other-way : (a b : List ℕ) → sameBytes a b ≡ sameBytes b a
+other-way : (a b : List ℕ) → sameBytes a b ≡ sameBytes b a
 other-way a b = go (sameBytes a b) refl (sameBytes b a) refl
   where
     go : (x : Bool) → sameBytes a b ≡ x → (y : Bool) → sameBytes b a ≡ y → sameBytes a b ≡ sameBytes b a
@@ -101,7 +98,7 @@ module _ (says : List ℕ → Option Value) where
       let e : sameBytes (g .key) (f .key) ≡ false = sym (is-false (sameBytes (g .key) (f .key)) (both-left (not (sameBytes (g .key) (f .key))) (lacks l (f .key)) t)) in
       (rw e (F .0), still-fresh f (some v) l x (both-right (not (sameBytes (g .key) (f .key))) (lacks l (f .key)) t) (F .1))
 
-  pub cells-from : (l : List Field) (x : List ℕ → Said) → T (apart l) → Fresh x l → cellsOf l (λ k. saidFrom k (x k) (written l)) ≡ cellsBy l
+  cells-from : (l : List Field) (x : List ℕ → Said) → T (apart l) → Fresh x l → cellsOf l (λ k. saidFrom k (x k) (written l)) ≡ cellsBy l
   unfolding cellsOf
   cells-from [] x t F = refl
   cells-from (f ∷ l) x t F =

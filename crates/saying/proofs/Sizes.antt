@@ -2,10 +2,10 @@
 -- Assumes nothing.
 use mathlib.Core.Path.{_≡_, refl}
 use mathlib.Core.Bool.{true}
-use mathlib.Core.List.{List, [], _++_}
+use mathlib.Core.List.{[], _++_}
 use Prim.Native.Nat.{ℕ, _+_, _*_, _^_, _≤_, _<_}
 use native.Mathlib.Omega.{arith}
-use lib.Dec.{T, leb, leb→le}
+use lib.Dec.{T}
 use lib.Ieee.{Float}
 use lib.ListN.{length, length-append}
 use lib.Pow.{areBytes}
@@ -21,7 +21,7 @@ use Rattle.message.specs.Record.{stringOf}
 use Rattle.saying.specs.Fits.{isSized, inBounds}
 use Rattle.saying.specs.Written.{treeOf}
 use Rattle.saying.proofs.Decimals.{version-length}
-use Rattle.saying.proofs.Sorts.{Sorted}
+use Rattle.saying.proofs.Sorts.{Sorted, sized-most}
 use Rattle.saying.proofs.Sorts.Sorted.{whole, real, flag, place, array, text, version, word}
 use Rattle.saying.proofs.Words.{isWord}
 
@@ -89,9 +89,6 @@ mostOf Kind.versions = 18
 mostOf Kind.words = 10
 mostOf Kind.maps = 0
 
-at-most : (lo hi : ℕ) (d : List ℕ) → T (isSized lo hi d) → length d ≤ hi
-at-most lo hi d t = leb→le (length d) hi (both-right (leb lo (length d)) (leb (length d) hi) t)
-
 pub value-length : {k : Kind} {v : Value} → Sorted k v → T (inBounds k v) → length (stringOf v) < 2 ^ 32 → (isWord k ≡ true → length (stringOf v) ≤ 9)
     → length (bytesOf (treeOf k v)) ≤ mostOf k
 unfolding treeOf
@@ -107,9 +104,9 @@ value-length (array lo hi d) t l w =
       array-length (numberTrees d),
       array-size (partsOf (numberTrees d)),
       numbers-length d (both-right (isSized lo hi d) (areBytes d) t),
-      at-most lo hi d (both-left (isSized lo hi d) (areBytes d) t),
+      sized-most lo hi d (both-left (isSized lo hi d) (areBytes d) t),
     )
-value-length (text lo hi d) t l w = omega (arith, text-length d l, at-most lo hi d t)
+value-length (text lo hi d) t l w = omega (arith, text-length d l, sized-most lo hi d t)
 value-length (version a b c) t l w =
     let n = version-length a b c in
     omega (arith, text-length-few (versionText a b c) (omega arith))

@@ -3,13 +3,14 @@
 use mathlib.Core.Path.{subst}
 use mathlib.Core.Bool.{Bool, true, _&&_}
 use mathlib.Core.List.{List, [], _∷_}
-use Prim.Native.Nat.{ℕ, zero, suc, _^_}
-use lib.Dec.{T, eqb, eqb→eq, leb, ltb}
+use Prim.Native.Nat.{ℕ, zero, suc, _^_, _≤_}
+use lib.Dec.{T, eqb, eqb→eq, leb, leb→le, ltb}
 use lib.IntN.{ℤ}
 use lib.Ieee.{Float}
+use lib.ListN.{length}
 use Rattle.octets.proofs.Ranges.{both-left, both-right}
 use Rattle.field.specs.Kind.{Kind, Value, kinds, kindIn, kindOf}
-use Rattle.saying.specs.Fits.{inBounds, sortFor, sortOf, within}
+use Rattle.saying.specs.Fits.{isSized, inBounds, sortFor, sortOf, within}
 
 -- a value by the number of its sort
 data Of : ℕ → Value → Type 0 where
@@ -59,6 +60,13 @@ module _ (k : Kind) (v : Value) (t : T (within k v)) where
   pub bounds : T (inBounds k v)
   unfolding within
   bounds = both-right (eqb (sortOf v) (sortFor k)) (inBounds k v) t
+
+-- bytes of a range are so many
+pub sized-most : (lo hi : ℕ) (d : List ℕ) → T (isSized lo hi d) → length d ≤ hi
+sized-most lo hi d t = leb→le (length d) hi (both-right (leb lo (length d)) (leb (length d) hi) t)
+
+pub sized-least : (lo hi : ℕ) (d : List ℕ) → T (isSized lo hi d) → lo ≤ length d
+sized-least lo hi d t = leb→le lo (length d) (both-left (leb lo (length d)) (leb (length d) hi) t)
 
 -- a kind whose values have a form
 abbrev pub isHeld : Kind → Bool

@@ -1,5 +1,5 @@
--- The bytes that a record says of a key are few: the range says so, or the key is that of a word, of which only `command` has a row, and the names of the
--- commands have at most nine bytes. So all that a record says in its range reads back. Assumes nothing.
+-- The bytes that rows say of a key are few: the range says so, or the key is that of a word, of which only `command` has a row, and the names of the
+-- commands have at most nine bytes. So all that they say in its range reads back. Assumes nothing.
 use mathlib.Core.Path.{_≡_, refl, sym, ap, subst, _∙_}
 use mathlib.Core.Bool.{Bool, true, false, not, _&&_}
 use mathlib.Core.List.{List, [], _∷_}
@@ -14,17 +14,17 @@ use Rattle.octets.proofs.Ranges.{both-left, both-right, is-false, true-false}
 use Rattle.element.specs.Meaning.{meaningOf}
 use Rattle.names.specs.Names.{sameBytes, commands, nameAt}
 use Rattle.names.proofs.Same.{same-eq}
-use Rattle.field.specs.Kind.{Kind, Value, kinds, kindIn, kindOf}
+use Rattle.field.specs.Kind.{Kind, Value, kindOf}
 use Rattle.field.specs.Judge.{judge}
-use Rattle.message.specs.Fields.{Field, lists}
+use Rattle.message.specs.Fields.{Field}
 use Rattle.message.specs.Record.{stringOf}
-use Rattle.message.specs.declared.Message.{Message}
 use Rattle.message.proofs.KeyKinds.{kindFor}
-use Rattle.saying.specs.Says.{Row, rowsOf, partIn, saysOf}
+use Rattle.saying.specs.Says.{Row, partIn}
 use Rattle.saying.specs.Fits.{isSized, inBounds, within}
 use Rattle.saying.specs.Written.{treeOf}
+use Rattle.saying.proofs.Rows.{some-is, some-none, saysIn}
 use Rattle.saying.proofs.Shown.{keptBy}
-use Rattle.saying.proofs.Sorts.{Sorted, sorted, bounds, isHeld, kinds-held}
+use Rattle.saying.proofs.Sorts.{Sorted, sorted, bounds, sized-most, isHeld, kinds-held}
 use Rattle.saying.proofs.Sorts.Sorted.{whole, real, flag, place, array, text, version, word}
 use Rattle.saying.proofs.Back.{back-of}
 
@@ -55,10 +55,10 @@ isWord Kind.versions = false
 isWord Kind.words = true
 isWord Kind.maps = false
 
-unfoldable isWordKey : List ℕ → Bool
+unfoldable pub isWordKey : List ℕ → Bool
 isWordKey k = isWord (kindOf (kindFor k))
 
-abbrev wordless : List Row → Bool
+abbrev pub wordless : List Row → Bool
 wordless [] = true
 wordless (r ∷ rs) = not (isWordKey (r .key)) && wordless rs
 
@@ -84,20 +84,31 @@ only-first r rs k v t w = go (sameBytes (r .key) k)
   where
     go : (b : Bool) → either b (λ _. r .part) (λ _. partIn rs k) .said ≡ some v → r .part .said ≡ some v
     go true e = e
-    go false e = let n = unspoken rs k t w in let z : _≡_ {A = ℕ} 0 1 = cc in absurd (omega arith)
+    go false e = some-none (sym e ∙ unspoken rs k t w)
 
-abbrev firstOf : List Row → Option Value
+abbrev pub firstOf : List Row → Option Value
 firstOf [] = none
 firstOf (r ∷ rs) = r .part .said
 
-abbrev othersOf : List Row → List Row
+abbrev pub othersOf : List Row → List Row
 othersOf [] = []
 othersOf (r ∷ rs) = rs
 
-only-command : (rs : List Row) (k : List ℕ) (v : Value) → T (wordless (othersOf rs)) → isWordKey k ≡ true → partIn rs k .said ≡ some v → firstOf rs ≡ some v
+only-command : (rs : List Row) (k : List ℕ) (v : Value) → T (wordless (othersOf rs)) → isWordKey k ≡ true → saysIn rs k ≡ some v → firstOf rs ≡ some v
 unfolding partIn
 only-command [] k v t w e = e
 only-command (r ∷ rs) k v t w e = only-first r rs k v t w e
+
+-- rows that say few bytes under the key of a word
+abbrev pub FewWords : List Row → Type 0
+FewWords rs = (k : List ℕ) (v : Value) → saysIn rs k ≡ some v → isWord (kindOf (kindFor k)) ≡ true → length (stringOf v) ≤ 9
+
+-- a command's name first, and no word behind it
+pub few-words : (rs : List Row) (c : ℕ) → firstOf rs ≡ some (Value.string (nameAt commands c)) → T (wordless (othersOf rs)) → FewWords rs
+unfolding isWordKey
+few-words rs c first others k v says w =
+    let e : Value.string (nameAt commands c) ≡ v = some-is (sym first ∙ only-command rs k v others w says) in
+    subst (λ (x : Value). length (stringOf x) ≤ 9) e (name-few c)
 
 few-by : {n : Kind} {v : Value} → Sorted n v → T (isHeld n) → T (inBounds n v) → (isWord n ≡ true → length (stringOf v) ≤ 9) → length (stringOf v) < 2 ^ 16
 few-by (whole lo hi z) h t w = omega arith
@@ -105,41 +116,20 @@ few-by (real x) h t w = omega arith
 few-by (flag b) h t w = omega arith
 few-by (place x y z) h t w = omega arith
 few-by (array lo hi d) h t w =
-    omega (arith, ltb→lt hi (2 ^ 16) h, leb→le (length d) hi (both-right (leb lo (length d)) (leb (length d) hi) (both-left (isSized lo hi d) (areBytes d) t)))
-few-by (text lo hi d) h t w = omega (arith, ltb→lt hi (2 ^ 16) h, leb→le (length d) hi (both-right (leb lo (length d)) (leb (length d) hi) t))
+    omega (arith, ltb→lt hi (2 ^ 16) h, sized-most lo hi d (both-left (isSized lo hi d) (areBytes d) t))
+few-by (text lo hi d) h t w = omega (arith, ltb→lt hi (2 ^ 16) h, sized-most lo hi d t)
 few-by (version a b c) h t w = omega arith
 few-by (word d) h t w = omega (arith, w refl)
 
-module _ (m : Message) where
-  others-wordless : T (wordless (othersOf (rowsOf m)))
-  unfolding rowsOf isWordKey kindFor lists kinds kindIn
-  others-wordless = tt
+-- what such rows say of a field whose kind is that of its key
+module _ (rs : List Row) (few : FewWords rs) (f : Field) (v : Value) (agrees : f .kind ≡ kindFor (f .key)) (says : saysIn rs (f .key) ≡ some v) where
+  pub word-few : isWord (kindOf (f .kind)) ≡ true → length (stringOf v) ≤ 9
+  word-few w = few (f .key) v says (ap (λ (n : ℕ). isWord (kindOf n)) (sym agrees) ∙ w)
 
-  first-is : firstOf (rowsOf m) ≡ some (Value.string (nameAt commands (m .command)))
-  unfolding rowsOf
-  first-is = refl
-
-  module _ (k : List ℕ) (v : Value) (says : saysOf m k ≡ some v) where
-    pub word-few : isWord (kindOf (kindFor k)) ≡ true → length (stringOf v) ≤ 9
-    unfolding isWordKey
-    word-few w =
-        let e : Value.string (nameAt commands (m .command)) ≡ v = cc (first-is, only-command (rowsOf m) k v others-wordless w says) in
-        subst (λ (x : Value). length (stringOf x) ≤ 9) e (name-few (m .command))
-
-    pub said-few : T (within (kindOf (kindFor k)) v) → length (stringOf v) < 2 ^ 16
-    said-few t =
-        let n = kindOf (kindFor k) in
-        few-by (sorted n v t) (kinds-held (kindFor k)) (bounds n v t) word-few
-
-    -- what is said of a key reads back
-    pub back-at : T (within (kindOf (kindFor k)) v)
-        → judge (kindOf (kindFor k)) (meaningOf (treeOf (kindOf (kindFor k)) v)) ≡ some (keptBy (kindOf (kindFor k)) v)
-    back-at t = let l = said-few t in back-of (kindFor k) v (omega arith) t
-
-  -- the same for a field whose kind is that of its key
-  module _ (f : Field) (v : Value) (agrees : f .kind ≡ kindFor (f .key)) (says : saysOf m (f .key) ≡ some v) (t : T (within (kindOf (f .kind)) v)) where
+  module _ (t : T (within (kindOf (f .kind)) v)) where
     pub field-few : length (stringOf v) < 2 ^ 16
-    field-few = said-few (f .key) v says (rw agrees at t)
+    field-few = few-by (sorted (kindOf (f .kind)) v t) (kinds-held (f .kind)) (bounds (kindOf (f .kind)) v t) word-few
 
-    pub back-in : judge (kindOf (f .kind)) (meaningOf (treeOf (kindOf (f .kind)) v)) ≡ some (keptBy (kindOf (f .kind)) v)
-    back-in = let l = field-few in back-of (f .kind) v (omega arith) t
+    -- it reads back
+    pub row-back : judge (kindOf (f .kind)) (meaningOf (treeOf (kindOf (f .kind)) v)) ≡ some (keptBy (kindOf (f .kind)) v)
+    row-back = let l = field-few in back-of (f .kind) v (omega arith) t

@@ -1,23 +1,20 @@
--- Document 01's 15 for a record to write: the fields of its command are in their ranges, and nothing else is in it.
+-- Document 01's 15 for a field to write: its value is in the range of its kind, and nothing else is in its part.
 use Prim.Native.Nat.{ℕ}
-use mathlib.Core.Bool.{Bool, true, false, not, _&&_, _||_}
-use mathlib.Core.List.{List, [], _∷_}
+use mathlib.Core.Bool.{Bool, true, not, _&&_}
+use mathlib.Core.List.{List}
 use mathlib.Core.Option.{Option, some, none}
-use lib.Dec.{eqb, leb, ltb}
+use lib.Dec.{eqb, leb}
 use lib.Ieee.{Float, binary64, toBits, fits as holds}
 use lib.ListN.{length}
 use lib.Pow.{areBytes}
-use Rattle.octets.specs.Choice.{either}
-use Rattle.names.specs.Names.{sameBytes}
 use Rattle.number.specs.Number.{finite}
 use Rattle.field.specs.declared.Position.{Position}
 use Rattle.field.specs.Kind.{Kind, Value, kindOf}
 use Rattle.field.specs.Judge.{inRange}
 use Rattle.field.specs.Cell.{figureOf}
-use Rattle.message.specs.Fields.{Field, fieldsOf}
+use Rattle.message.specs.Fields.{Field}
 use Rattle.message.specs.Record.{idOf, stringOf, positionOf}
-use Rattle.message.specs.declared.Message.{Message}
-use Rattle.saying.specs.Says.{Part, Row, rowsOf, partOf}
+use Rattle.saying.specs.Says.{Part}
 
 -- a finite real of 64 bits
 abbrev pub isReal : Float → Bool
@@ -81,23 +78,3 @@ saidFits f (some v) = within (kindOf (f .kind)) v
 
 abbrev pub fieldFits : Field → Part → Bool
 fieldFits f p = p .clean && saidFits f (p .said)
-
-unfoldable pub allFit : List Field → Message → Bool
-allFit [] m = true
-allFit (f ∷ l) m = fieldFits f (partOf m (f .key)) && allFit l m
-
-unfoldable pub isIn : List Field → List ℕ → Bool
-isIn [] k = false
-isIn (f ∷ l) k = sameBytes (f .key) k || isIn l k
-
--- what the command has not, is zero
-unfoldable pub othersBlank : List Field → List Row → Bool
-othersBlank l [] = true
-othersBlank l (r ∷ rs) = (isIn l (r .key) || r .part .blank) && othersBlank l rs
-
--- one of the 21 commands, its fields in their ranges, zeros besides, and no responseExp without dlOpen
-unfoldable pub fits : Message → Bool
-fits m =
-    ltb (m .command) 21
-    && (allFit (fieldsOf (m .command)) m
-    && (othersBlank (fieldsOf (m .command)) (rowsOf m) && (not (m .«response_exp») || m .«dl_open»)))

@@ -1,4 +1,4 @@
--- Document 01, "Elements": what is written for a record, keys in listed order, optional fields only where present, D fields never.
+-- Document 01, "Elements": what is written for the fields that are said, keys in listed order; and the frame of a payload.
 use Prim.Native.Nat.{ℕ}
 use mathlib.Core.Bool.{Bool, true, false}
 use mathlib.Core.List.{List, [], _∷_, _++_}
@@ -7,14 +7,12 @@ use lib.ListN.{length}
 use Rattle.octets.specs.Choice.{either}
 use Rattle.octets.specs.Bytes.{littleBytes}
 use Rattle.frame.specs.Frame.{identifier}
-use Rattle.element.specs.Tree.{Tree, Pairs, bytesOf}
+use Rattle.element.specs.Tree.{Tree, Pairs}
 use Rattle.element.specs.Tree.Tree.{leaf}
 use Rattle.element.specs.Tree.Pairs.{end, pair}
-use Rattle.forms.specs.Shortest.{wholeTree, realTree, markTree, textTree, octetsTree, positionTree, mapTree, versionText}
+use Rattle.forms.specs.Shortest.{wholeTree, realTree, markTree, textTree, octetsTree, positionTree, versionText}
 use Rattle.field.specs.Kind.{Kind, Value, kindOf}
-use Rattle.message.specs.Fields.{Field, fieldsOf}
-use Rattle.message.specs.declared.Message.{Message}
-use Rattle.saying.specs.Says.{saysOf}
+use Rattle.message.specs.Fields.{Field}
 
 -- bytes are an array of numbers in some fields and a text in the others
 abbrev pub asArray : Kind → Bool
@@ -47,15 +45,6 @@ unfoldable pub pairsFrom : List Field → (List ℕ → Option Value) → Pairs
 pairsFrom [] says = end
 pairsFrom (f ∷ l) says = pairBy f (says (f .key)) (pairsFrom l says)
 
-abbrev pub treeFor : Message → Tree
-treeFor m = mapTree (pairsFrom (fieldsOf (m .command)) (saysOf m))
-
-unfoldable pub payloadFor : Message → List ℕ
-payloadFor m = bytesOf (treeFor m)
-
 -- identifier, size, payload
 unfoldable pub frameOf : List ℕ → List ℕ
 frameOf d = identifier ++ (littleBytes 4 (length d) ++ d)
-
-abbrev pub frameFor : Message → List ℕ
-frameFor m = frameOf (payloadFor m)

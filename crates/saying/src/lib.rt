@@ -1,1 +1,1 @@
-// What a record says of each key, and the message that is written for it. Definitions and theorems alone.
+// The parts of a record: what they say of each key, whether it fits, and what is written for it. Definitions and theorems alone.

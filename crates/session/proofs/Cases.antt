@@ -1,10 +1,12 @@
--- A property of outcomes, by the cases that make one: a test, a test whose result is of use, and the operation that is found or not. Assumes nothing.
+-- A property of outcomes, by the cases that make one: a test, a test whose result is of use, an operation that is found or not, and a con or another record. Assumes nothing.
 use mathlib.Core.Path.{_≡_, refl}
 use mathlib.Core.Bool.{Bool, true, false}
 use mathlib.Core.Option.{Option, some, none}
 use Rattle.octets.specs.Choice.{either}
+use Rattle.record.specs.declared.Con.{Con}
+use Rattle.record.specs.declared.Body.{Body}
 use Rattle.session.specs.Kinds.{Operation}
-use Rattle.session.specs.Arrive.{Outcome, orElse}
+use Rattle.session.specs.Arrive.{Outcome, conIn, orElse}
 
 module _ (P : Outcome → Type 0) where
   pub by-test : (b : Bool) (x y : Outcome) → P x → P y → P (either b (λ _. x) (λ _. y))
@@ -18,3 +20,14 @@ module _ (P : Outcome → Type 0) where
   pub by-choice : (c : Option Operation) (f : Operation → Outcome) (x : Outcome) → ((o : Operation) → P (f o)) → P x → P (orElse c f (λ _. x))
   by-choice none f x p q = q
   by-choice (some o) f x p q = p o
+
+  pub by-con : (b : Body) (f : Con → Outcome) (x : Outcome) → ((c : Con) → b ≡ Body.Con c → P (f c)) → P x → P (orElse (conIn b) f (λ _. x))
+  by-con (Body.Con c) f x p q = p c refl
+  by-con (Body.ConRsp c) f x p q = q
+  by-con (Body.StatusRsp c) f x p q = q
+  by-con (Body.Det c) f x p q = q
+  by-con (Body.DetRsp c) f x p q = q
+  by-con (Body.AttPrp c) f x p q = q
+  by-con (Body.DetPrp c) f x p q = q
+  by-con (Body.UlData c) f x p q = q
+  by-con (Body.Bare c) f x p q = q

@@ -11,16 +11,17 @@ use lib.IntN.{ℤ, pos, negsuc}
 use borrow.Author.Tests.{ltb-true, ne-eqb}
 use Rattle.octets.specs.Choice.{either}
 use Rattle.names.specs.Names.{bytes, commandOf}
-use Rattle.message.specs.declared.Message.{Message}
-use Rattle.saying.specs.Fits.{fits}
+use Rattle.record.specs.declared.Message.{Message}
+use Rattle.record.specs.Record.{fourOf, commandIn}
+use Rattle.record.specs.Fits.{fits}
 use Rattle.session.specs.Session.{State, Session, Host}
 use Rattle.session.specs.Session.State.{Waiting, Connecting, Open}
 use Rattle.session.specs.Place.{sameId, freePlace, placeOf, openIn}
 use Rattle.session.specs.Kinds.{Operation, stationStarts, centreStarts, operationBy}
-use Rattle.session.specs.Arrive.{Outcome, below, highestOf, lowestOf, resumes, starts, startAt, completeAt, respondAt, inWaiting, inConnecting, whenOpen, inState, arrives}
+use Rattle.session.specs.Arrive.{Outcome, below, highestOf, lowestOf, resumes, starts, startAt, completeAt, respondAt, inWaiting, inConnecting, inOpen, inState, arrives}
 use Rattle.session.specs.Centre.{oneBelow, lastId, underId, beginAt, kindBegins, ifOpen, centreBegins, lostIn, lost}
 use Rattle.session.specs.Run.{Event, reached, after, happenedOf, lossOf, happenedIn, stationAfter, centreAfter, afterAll, countAll}
-use Rattle.session.proofs.Cases.{by-test, by-result, by-choice}
+use Rattle.session.proofs.Cases.{by-test, by-result, by-choice, by-con}
 use Rattle.session.proofs.Entries.{frees-one, takes-one}
 
 -- both sides' counts, from one session to another
@@ -31,7 +32,7 @@ pub record Counted (s : Session) (w : ℕ) (t : Session) : Type 0 where
 abbrev Counts : Session → Outcome → Type 0
 Counts s (Outcome.refused n) = Unit {0}
 Counts s (Outcome.silent w t) = Counted s w t
-Counts s (Outcome.replies w t m) = Counted s w t
+Counts s (Outcome.replies w t m d) = Counted s w t
 
 -- an ID above the highest, and one below the lowest, is not 0
 above : (h z : ℤ) → below (either (below h (pos 0)) (λ _. pos 0) (λ _. h)) z ≡ true → sameId z (pos 0) ≡ false
@@ -51,12 +52,12 @@ one-fewer : (n m : ℕ) → suc n ≡ m → n ≡ m - 1
 one-fewer n m e = omega arith
 
 module _ (s : Session) where
-  counted-start : (h : Host) (o : Operation) (z : ℤ) (p : Option ℕ) → sameId z (pos 0) ≡ false → freePlace (s .station) ≡ p → Counts s (startAt s h o z p)
-  counted-start h o z none n e = tt
-  counted-start h o z (some i) n e = record { station = takes-one (s .station) i z (o .start) n e; centre = refl }
+  counted-start : (g : ℕ) (o : Operation) (z : ℤ) (p : Option ℕ) → sameId z (pos 0) ≡ false → freePlace (s .station) ≡ p → Counts s (startAt s g o z p)
+  counted-start g o z none n e = tt
+  counted-start g o z (some i) n e = record { station = takes-one (s .station) i z (o .start) n e; centre = refl }
 
-  counted-starts : (h : Host) (o : Operation) (z : ℤ) → Counts s (starts s h o z)
-  counted-starts h o z = by-result (Counts s) (below (highestOf s) z) _ _ (λ e. counted-start h o z (freePlace (s .station)) (above (s .highest) z e) refl) (λ e. tt)
+  counted-starts : (g : ℕ) (o : Operation) (z : ℤ) → Counts s (starts s g o z)
+  counted-starts g o z = by-result (Counts s) (below (highestOf s) z) _ _ (λ e. counted-start g o z (freePlace (s .station)) (above (s .highest) z e) refl) (λ e. tt)
 
   counted-complete : (k : ℕ) (z : ℤ) (p : Option ℕ) → placeOf z k (s .station) ≡ p → Counts s (completeAt s p)
   counted-complete k z none e = tt
@@ -66,55 +67,55 @@ module _ (s : Session) where
   counted-respond o z none e = tt
   counted-respond o z (some i) e = record { station = refl; centre = one-fewer _ _ (frees-one (s .centre) i z (o .start) e) }
 
-  counted-open : (h : Host) (c : ℕ) (z : ℤ) → Counts s (whenOpen s h c z)
-  unfolding whenOpen
-  counted-open h c z =
-      by-choice (Counts s) (operationBy (λ o. o .start) stationStarts c) _ _ (λ o. counted-starts h o z)
+  counted-open : (g c : ℕ) (z : ℤ) → Counts s (inOpen s g c z)
+  unfolding inOpen
+  counted-open g c z =
+      by-choice (Counts s) (operationBy (λ o. o .start) stationStarts c) _ _ (λ o. counted-starts g o z)
       (by-choice (Counts s) (operationBy (λ o. o .cmp) stationStarts c) _ _ (λ o. counted-complete (o .start) z (placeOf z (o .start) (s .station)) refl)
       (by-choice (Counts s) (operationBy (λ o. o .rsp) centreStarts c) _ _ (λ o. counted-respond o z (placeOf z (o .start) (s .centre)) refl) tt))
 
   counted-waiting : (m : Message) (h : Host) → Counts s (inWaiting s m h)
   unfolding inWaiting
   counted-waiting m h =
-      by-test (Counts s) (eqb (m .command) (commandOf (bytes "con"))) _ _
-      (by-test (Counts s) (sameId (m .«op_id») (pos 0)) _ _
-      (by-test (Counts s) (eqb (m .version .major) 1 && eqb (m .version .minor) 0) _ _
-      (by-test (Counts s) (resumes s m) _ _ (record { station = refl; centre = refl }) (record { station = refl; centre = refl })) tt) tt) tt
+      by-con (Counts s) (m .body) _ _
+      (λ x e. by-test (Counts s) (sameId (m .«op_id») (pos 0)) _ _
+      (by-test (Counts s) (eqb (x .version .major) 1 && eqb (x .version .minor) 0) _ _
+      (by-test (Counts s) (resumes s x) _ _ (record { station = refl; centre = refl }) (record { station = refl; centre = refl })) tt) tt) tt
 
-  counted-connecting : (m : Message) → Counts s (inConnecting s m)
+  counted-connecting : (c : ℕ) (z : ℤ) → Counts s (inConnecting s c z)
   unfolding inConnecting
-  counted-connecting m = by-test (Counts s) (eqb (m .command) (commandOf (bytes "conCmp")) && sameId (m .«op_id») (pos 0)) _ _ (record { station = refl; centre = refl }) tt
+  counted-connecting c z = by-test (Counts s) (eqb c (commandOf (bytes "conCmp")) && sameId z (pos 0)) _ _ (record { station = refl; centre = refl }) tt
 
   counted-state : (x : State) (m : Message) (h : Host) → Counts s (inState x s m h)
   counted-state Waiting m h = counted-waiting m h
-  counted-state Connecting m h = counted-connecting m
-  counted-state Open m h = counted-open h (m .command) (m .«op_id»)
+  counted-state Connecting m h = counted-connecting (commandIn (m .body)) (m .«op_id»)
+  counted-state Open m h = counted-open (fourOf (h .sign)) (commandIn (m .body)) (m .«op_id»)
 
-  counted-arrival : (m : Message) (h : Host) → Counts s (arrives s m h)
+  counted-arrival : (m : Message) (d : List ℕ) (h : Host) → Counts s (arrives s m d h)
   unfolding arrives
-  counted-arrival m h = by-test (Counts s) (fits m) _ _ (counted-state (s .state) m h) tt
+  counted-arrival m d h = by-test (Counts s) (fits m d) _ _ (counted-state (s .state) m h) tt
 
-  counted-issue : (o : Operation) (m : Message) (p : Option ℕ) → freePlace (s .centre) ≡ p → Counts s (beginAt s o (oneBelow (lowestOf s)) m p)
-  counted-issue o m none e = tt
-  counted-issue o m (some i) e =
-      by-test (Counts s) (fits m) _ _ (record { station = refl; centre = takes-one (s .centre) i (oneBelow (lowestOf s)) (o .start) (under (lowestOf s)) e }) tt
+  counted-issue : (o : Operation) (m : Message) (d : List ℕ) (p : Option ℕ) → freePlace (s .centre) ≡ p → Counts s (beginAt s o (oneBelow (lowestOf s)) m d p)
+  counted-issue o m d none e = tt
+  counted-issue o m d (some i) e =
+      by-test (Counts s) (fits m d) _ _ (record { station = refl; centre = takes-one (s .centre) i (oneBelow (lowestOf s)) (o .start) (under (lowestOf s)) e }) tt
 
-  counted-begin : (m : Message) → Counts s (centreBegins s m)
+  counted-begin : (m : Message) (d : List ℕ) → Counts s (centreBegins s m d)
   unfolding centreBegins
-  counted-begin m = go (s .state)
+  counted-begin m d = go (s .state)
     where
-      go : (x : State) → Counts s (ifOpen x (λ _. kindBegins s (m .command) m))
+      go : (x : State) → Counts s (ifOpen x (λ _. kindBegins s (commandIn (m .body)) m d))
       go Waiting = tt
       go Connecting = tt
       go Open =
-          by-choice (Counts s) (operationBy (λ o. o .start) centreStarts (m .command)) _ _
-          (λ o. by-test (Counts s) (sameId (lowestOf s) lastId) _ _ tt (counted-issue o (underId (oneBelow (lowestOf s)) m) (freePlace (s .centre)) refl)) tt
+          by-choice (Counts s) (operationBy (λ o. o .start) centreStarts (commandIn (m .body))) _ _
+          (λ o. by-test (Counts s) (sameId (lowestOf s) lastId) _ _ tt (counted-issue o (underId (oneBelow (lowestOf s)) m) d (freePlace (s .centre)) refl)) tt
 
 -- a step
 reached-counts : (s : Session) (o : Outcome) → Counts s o → Counted s (happenedOf o) (reached s o)
 reached-counts s (Outcome.refused n) c = record { station = refl; centre = refl }
 reached-counts s (Outcome.silent w t) c = c
-reached-counts s (Outcome.replies w t m) c = c
+reached-counts s (Outcome.replies w t m d) c = c
 
 loss-counts : (s : Session) (x : State) → Counted s (lossOf x) (lostIn x s)
 loss-counts s Waiting = record { station = refl; centre = refl }
@@ -123,8 +124,8 @@ loss-counts s Open = record { station = refl; centre = refl }
 
 pub step-counts : (s : Session) (e : Event) → Counted s (happenedIn s e) (after s e)
 unfolding lost
-step-counts s (Event.arrival m h) = reached-counts s (arrives s m h) (counted-arrival s m h)
-step-counts s (Event.beginning m) = reached-counts s (centreBegins s m) (counted-begin s m)
+step-counts s (Event.arrival m d h) = reached-counts s (arrives s m d h) (counted-arrival s m d h)
+step-counts s (Event.beginning m d) = reached-counts s (centreBegins s m d) (counted-begin s m d)
 step-counts s Event.loss = loss-counts s (s .state)
 
 -- a run

@@ -1,36 +1,38 @@
 -- Every step of a session that a program can hold leaves one that it can hold, and so is the session in any 368 bytes: IDs fit 64 bits and lists keep
 -- their lengths. Of each step by its cases; what a record brings was judged before. Assumes nothing.
-use mathlib.Core.Path.{_≡_, refl, sym, _∙_}
+use mathlib.Core.Path.{_≡_, refl, _∙_}
 use mathlib.Core.Bool.{Bool, true, false, _&&_}
 use mathlib.Core.List.{List, [], _∷_}
 use mathlib.Core.Option.{Option, some, none}
 use Prim.Native.Nat.{ℕ, zero, suc, _+_, _-_, _^_, _<_}
 use native.Mathlib.Omega.{arith}
-use lib.Dec.{T, eqb, ltb}
+use lib.Dec.{eqb, ltb}
 use lib.IntN.{ℤ, pos, negsuc}
 use lib.ListN.{length, set, replicate, length-set}
 use mir.Syntax.{w64}
 use mir.Val.{SFits}
-use borrow.Author.Tests.{eqb-true, eqb-false, ltb-true, ltb-false}
+use borrow.Author.Tests.{eqb-false, ltb-true, ltb-false}
 use Rattle.octets.specs.Bytes.{IsBytes}
 use Rattle.octets.specs.Choice.{either}
 use Rattle.octets.specs.Signed.{signedOf}
-use Rattle.octets.proofs.Ranges.{true-is}
 use Rattle.octets.proofs.Widths.{little-below}
-use Rattle.names.specs.Names.{bytes, commands, placeIn, commandOf}
-use Rattle.message.specs.declared.Message.{Message}
-use Rattle.saying.specs.Fits.{fits}
+use Rattle.names.specs.Names.{bytes, commandOf}
+use Rattle.record.specs.declared.Con.{Con}
+use Rattle.record.specs.declared.Message.{Message}
+use Rattle.record.specs.Record.{fourOf, commandIn}
+use Rattle.record.specs.Says.{sixteenBytes}
+use Rattle.record.specs.Fits.{fits}
 use Rattle.session.specs.Session.{State, Entry, Session, Host}
 use Rattle.session.specs.Session.State.{Waiting, Connecting, Open}
 use Rattle.session.specs.Place.{sameId, freePlace, placeOf, noEntry, entry}
 use Rattle.session.specs.Kinds.{Operation, stationStarts, centreStarts, operationBy}
-use Rattle.session.specs.Arrive.{Outcome, below, highestOf, lowestOf, resumes, moved, begunWith, withStation, withCentre, startAt, completeAt, respondAt, inWaiting, inConnecting, whenOpen, inState, arrives}
+use Rattle.session.specs.Arrive.{Outcome, below, highestOf, lowestOf, resumes, moved, begun, begunWith, withStation, withCentre, startAt, completeAt, respondAt, inWaiting, inConnecting, inOpen, inState, arrives}
 use Rattle.session.specs.Centre.{oneBelow, lastId, underId, beginAt, kindBegins, ifOpen, centreBegins, lostIn, lost}
 use Rattle.session.specs.Image.{wordAt, entriesAt, sessionAt}
 use Rattle.session.proofs.Image.{sized}
 use Rattle.session.proofs.Back.{AllFit, Held}
-use Rattle.session.proofs.Cases.{by-test, by-result, by-choice}
-use Rattle.session.proofs.Judged.{id-fits, eui-fits, uuid-fits}
+use Rattle.session.proofs.Cases.{by-test, by-result, by-choice, by-con}
+use Rattle.session.proofs.Judged.{id-fits, eui-fits, sixteen-long}
 
 -- numbers: from 64 bits, 0, and one below another that is not the last
 word-fits : (x : ℕ) → x < 2 ^ 64 → SFits w64 (signedOf 64 x)
@@ -88,7 +90,7 @@ held-in d b l = record {
 abbrev pub Holds : Outcome → Type 0
 Holds (Outcome.refused n) = Unit {0}
 Holds (Outcome.silent w t) = Held t
-Holds (Outcome.replies w t m) = Held t
+Holds (Outcome.replies w t m d) = Held t
 
 anew-held : (eui : ℕ) (bs sc : List ℕ) → eui < 2 ^ 64 → length bs ≡ 16 → length sc ≡ 16 → Held (begunWith eui bs sc)
 anew-held eui bs sc h p q = record {
@@ -132,9 +134,9 @@ module _ (s : Session) (g : Held s) where
     centre = set-fits (s .centre) i e (g .centre) h;
   }
 
-  held-start : (h : Host) (o : Operation) (z : ℤ) (p : Option ℕ) → SFits w64 z → Holds (startAt s h o z p)
-  held-start h o z none f = tt
-  held-start h o z (some i) f = station-held z i (entry z (o .start)) f f
+  held-start : (k : ℕ) (o : Operation) (z : ℤ) (p : Option ℕ) → SFits w64 z → Holds (startAt s k o z p)
+  held-start k o z none f = tt
+  held-start k o z (some i) f = station-held z i (entry z (o .start)) f f
 
   held-complete : (p : Option ℕ) → Holds (completeAt s p)
   held-complete none = tt
@@ -144,54 +146,52 @@ module _ (s : Session) (g : Held s) where
   held-respond o z none = tt
   held-respond o z (some i) = centre-held (s .lowest) i noEntry (g .lowest) zero-fits
 
-  held-open : (h : Host) (c : ℕ) (z : ℤ) → SFits w64 z → Holds (whenOpen s h c z)
-  unfolding whenOpen
-  held-open h c z f =
-      by-choice Holds (operationBy (λ o. o .start) stationStarts c) _ _ (λ o. by-test Holds (below (highestOf s) z) _ _ (held-start h o z (freePlace (s .station)) f) tt)
+  held-open : (k c : ℕ) (z : ℤ) → SFits w64 z → Holds (inOpen s k c z)
+  unfolding inOpen
+  held-open k c z f =
+      by-choice Holds (operationBy (λ o. o .start) stationStarts c) _ _ (λ o. by-test Holds (below (highestOf s) z) _ _ (held-start k o z (freePlace (s .station)) f) tt)
       (by-choice Holds (operationBy (λ o. o .cmp) stationStarts c) _ _ (λ o. held-complete (placeOf z (o .start) (s .station)))
       (by-choice Holds (operationBy (λ o. o .rsp) centreStarts c) _ _ (λ o. held-respond o z (placeOf z (o .start) (s .centre))) tt))
 
-  module _ (m : Message) where
-    held-connecting : Holds (inConnecting s m)
-    unfolding inConnecting
-    held-connecting = by-test Holds (eqb (m .command) (commandOf (bytes "conCmp")) && sameId (m .«op_id») (pos 0)) _ _ (moved-held Open (s .stored)) tt
+  held-connecting : (c : ℕ) (z : ℤ) → Holds (inConnecting s c z)
+  unfolding inConnecting
+  held-connecting c z = by-test Holds (eqb c (commandOf (bytes "conCmp")) && sameId z (pos 0)) _ _ (moved-held Open (s .stored)) tt
 
+  module _ (m : Message) (d : List ℕ) where
     module _ (h : Host) (l : length (h .uuid) ≡ 16) where
-      held-con : T (fits m) → m .command ≡ commandOf (bytes "con") → Held (begunWith (m .«bs_eui») (m .«sn_bs_uuid») (h .uuid))
-      unfolding commandOf commands placeIn
-      held-con t e = anew-held (m .«bs_eui») (m .«sn_bs_uuid») (h .uuid) (eui-fits m t e) (uuid-fits m t e) l
+      held-con : (x : Con) → x .«bs_eui» < 2 ^ 64 → Held (begun h x)
+      held-con x e = anew-held (x .«bs_eui») (sixteenBytes (x .«sn_bs_uuid»)) (h .uuid) e (sixteen-long (x .«sn_bs_uuid»)) l
 
-      held-waiting : T (fits m) → Holds (inWaiting s m h)
+      held-waiting : fits m d ≡ true → Holds (inWaiting s m h)
       unfolding inWaiting
       held-waiting t =
-          by-result Holds (eqb (m .command) (commandOf (bytes "con"))) _ _
-          (λ e. by-test Holds (sameId (m .«op_id») (pos 0)) _ _
-          (by-test Holds (eqb (m .version .major) 1 && eqb (m .version .minor) 0) _ _
-          (by-test Holds (resumes s m) _ _ (moved-held Connecting (s .stored)) (held-con t (eqb-true (m .command) (commandOf (bytes "con")) e))) tt) tt)
-          (λ e. tt)
+          by-con Holds (m .body) _ _
+          (λ x e. by-test Holds (sameId (m .«op_id») (pos 0)) _ _
+          (by-test Holds (eqb (x .version .major) 1 && eqb (x .version .minor) 0) _ _
+          (by-test Holds (resumes s x) _ _ (moved-held Connecting (s .stored)) (held-con x (eui-fits m d t x e))) tt) tt) tt
 
-      held-state : (x : State) → T (fits m) → Holds (inState x s m h)
+      held-state : (x : State) → fits m d ≡ true → Holds (inState x s m h)
       held-state Waiting t = held-waiting t
-      held-state Connecting t = held-connecting
-      held-state Open t = held-open h (m .command) (m .«op_id») (id-fits m t)
+      held-state Connecting t = held-connecting (commandIn (m .body)) (m .«op_id»)
+      held-state Open t = held-open (fourOf (h .sign)) (commandIn (m .body)) (m .«op_id») (id-fits m d t)
 
-      pub arrival-held : Holds (arrives s m h)
+      pub arrival-held : Holds (arrives s m d h)
       unfolding arrives
-      arrival-held = by-result Holds (fits m) _ _ (λ e. held-state (s .state) (true-is (fits m) (sym e))) (λ e. tt)
+      arrival-held = by-result Holds (fits m d) _ _ (held-state (s .state)) (λ e. tt)
 
-    held-issue : (o : Operation) (z : ℤ) (u : Message) (p : Option ℕ) → SFits w64 z → Holds (beginAt s o z u p)
+    held-issue : (o : Operation) (z : ℤ) (u : Message) (p : Option ℕ) → SFits w64 z → Holds (beginAt s o z u d p)
     held-issue o z u none f = tt
-    held-issue o z u (some i) f = by-test Holds (fits u) _ _ (centre-held z i (entry z (o .start)) f f) tt
+    held-issue o z u (some i) f = by-test Holds (fits u d) _ _ (centre-held z i (entry z (o .start)) f f) tt
 
-    pub begin-held : Holds (centreBegins s m)
+    pub begin-held : Holds (centreBegins s m d)
     unfolding centreBegins
     begin-held = go (s .state)
       where
-        go : (x : State) → Holds (ifOpen x (λ _. kindBegins s (m .command) m))
+        go : (x : State) → Holds (ifOpen x (λ _. kindBegins s (commandIn (m .body)) m d))
         go Waiting = tt
         go Connecting = tt
         go Open =
-            by-choice Holds (operationBy (λ o. o .start) centreStarts (m .command)) _ _
+            by-choice Holds (operationBy (λ o. o .start) centreStarts (commandIn (m .body))) _ _
             (λ o. by-result Holds (sameId (lowestOf s) lastId) _ _ (λ e. tt)
             (λ e. held-issue o (oneBelow (lowestOf s)) (underId (oneBelow (lowestOf s)) m) (freePlace (s .centre)) (below-fits (lowestOf s) (lowest-fits s (g .lowest)) e))) tt
 

@@ -8,7 +8,7 @@ use native.Mathlib.Numerals.{add-one}
 use native.Mathlib.Omega.{arith}
 use lib.Dec.{eqb, ltb}
 use lib.IntN.{pos, negsuc}
-use lib.ListN.{length, getD, take, drop, replicate, take-append-drop, length-drop, length-map}
+use lib.ListN.{length, getD, take, drop, replicate, take-append-drop, length-drop}
 use lib.Seq.{take-add, drop-drop, drop-cons, length-take-le}
 use borrow.Author.Tests.{eqb-true, ltb-true, ltb-false, ne-eqb}
 use Rattle.octets.specs.Choice.{either}
@@ -17,7 +17,7 @@ use Rattle.octets.specs.Signed.{bitsOf, signedOf}
 use Rattle.octets.proofs.Ranges.{true-false}
 use Rattle.octets.proofs.Widths.{little-below}
 use Rattle.octets.proofs.Digits.{little-again}
-use Rattle.session.specs.Session.{Entry, Session}
+use Rattle.session.specs.Session.{Session}
 use Rattle.session.specs.Image.{stateByte, stateOf, markByte, idsOf, kindsOf, wordsOf, bytesOf, wordBytes, sessionImage, wordAt, entriesAt, sessionAt, areZeros, isSession}
 
 -- what the test says of the bytes

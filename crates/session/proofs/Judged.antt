@@ -1,23 +1,31 @@
--- What the judgement of a record says of what a session takes from it: its ID has 64 bits, a con's bsEui too, and a con's snBsUuid has 16 bytes.
--- Each is mandatory in the command's list, so the range of its kind holds. Assumes nothing.
-use mathlib.Core.Path.{_≡_, refl, subst}
-use mathlib.Core.Bool.{not, _&&_, _||_}
+-- What the judgement of a record says of what a session takes from it: its ID has 64 bits, and a con's bsEui too. Each is mandatory in the command's
+-- list, so the range of its kind holds. A con's snBsUuid has 16 bytes. Assumes nothing.
+use mathlib.Core.Path.{_≡_, refl, subst, _∙_}
+use mathlib.Core.Bool.{Bool, true, false}
 use mathlib.Core.List.{List, [], _∷_}
 use Prim.Native.Nat.{ℕ, zero, suc, _^_, _<_}
 use native.Mathlib.Omega.{arith}
-use lib.Dec.{T, leb, ltb, leb→le}
+use lib.Dec.{T, leb→le}
 use lib.IntN.{ℤ, pos, negsuc}
-use lib.ListN.{length, drop}
-use lib.Pow.{areBytes}
+use lib.ListN.{length, drop, length-append}
 use mir.Syntax.{w64}
 use mir.Val.{SFits}
-use Rattle.octets.proofs.Ranges.{both-left, both-right}
+use borrow.Author.Tests.{eqb-true}
+use Rattle.octets.specs.Bytes.{bigBytes}
+use Rattle.octets.specs.Choice.{either}
+use Rattle.octets.proofs.Digits.{length-big}
 use Rattle.field.specs.Judge.{inRange}
 use Rattle.field.specs.Kind.{kinds, kindIn}
-use Rattle.message.specs.Fields.{Field, need, signed64, headed, lists, listIn, fieldsOf}
-use Rattle.message.specs.declared.Message.{Message}
-use Rattle.saying.specs.Says.{rowsOf, partIn, partOf}
-use Rattle.saying.specs.Fits.{within, fieldFits, allFit, othersBlank, fits}
+use Rattle.message.specs.Fields.{Field, headed, lists, listIn, fieldsOf}
+use Rattle.saying.specs.Says.{Part, partIn}
+use Rattle.saying.specs.Fits.{within, fieldFits}
+use Rattle.record.specs.declared.Con.{Con}
+use Rattle.record.specs.declared.Sixteen.{Sixteen}
+use Rattle.record.specs.declared.Body.{Body}
+use Rattle.record.specs.declared.Message.{Message}
+use Rattle.record.specs.Record.{commandIn}
+use Rattle.record.specs.Says.{sixteenBytes, bodyRows, rowsOf, partOf}
+use Rattle.record.specs.Fits.{firstFault, faultIn, fits}
 
 -- every list begins with command and opId
 abbrev AllHeaded : List (List Field) → Type 0
@@ -38,46 +46,43 @@ in-64 : (z : ℤ) → T (inRange 0x8000000000000000 0x7FFFFFFFFFFFFFFF z) → SF
 in-64 (pos n) t = record { sfits = omega (arith, leb→le n 0x7FFFFFFFFFFFFFFF t) }
 in-64 (negsuc k) t = record { sfits = leb→le (suc k) 0x8000000000000000 t }
 
-module _ (m : Message) where
-  -- the fields from a place of a list on
-  fits-from : (i : ℕ) (l : List Field) → T (allFit l m) → T (allFit (drop i l) m)
-  unfolding allFit
-  fits-from zero l t = t
-  fits-from (suc i) [] t = t
-  fits-from (suc i) (f ∷ l) t = fits-from i l (both-right (fieldFits f (partOf m (f .key))) (allFit l m) t)
+-- a list without a fault: its first field fits, and the fields behind it are without one
+module _ (part : List ℕ → Part) where
+  abbrev Faultless : ℕ → List Field → Type 0
+  Faultless i l = firstFault i l part ≡ 0
 
-  fits-first : (f : Field) (l : List Field) → T (allFit (f ∷ l) m) → T (fieldFits f (partOf m (f .key)))
-  unfolding allFit
-  fits-first f l t = both-left (fieldFits f (partOf m (f .key))) (allFit l m) t
+  first-fits : (i : ℕ) (f : Field) (l : List Field) → Faultless i (f ∷ l) → T (fieldFits f (part (f .key))) × Faultless (suc i) l
+  unfolding firstFault
+  first-fits i f l e = go (fieldFits f (part (f .key))) e
+    where
+      go : (b : Bool) → either b (λ _. firstFault (suc i) l part) (λ _. suc i) ≡ 0 → T b × Faultless (suc i) l
+      go true e = (tt, e)
+      go false e = absurd (omega arith)
 
-  module _ (t : T (fits m)) where
-    fields-fit : T (allFit (fieldsOf (m .command)) m)
-    unfolding fits
-    fields-fit =
-        let l = fieldsOf (m .command) in
-        let others = othersBlank l (rowsOf m) && (not (m .«response_exp») || m .«dl_open») in
-        both-left (allFit l m) others (both-right (ltb (m .command) 21) (allFit l m && others) t)
+-- sixteen bytes
+pub sixteen-long : (x : Sixteen) → length (sixteenBytes x) ≡ 16
+unfolding sixteenBytes
+sixteen-long x = length-append (bigBytes 8 (x .high)) (bigBytes 8 (x .low)) ∙ omega (arith, length-big 8 (x .high), length-big 8 (x .low))
 
-    id-listed : T (allFit (headed (drop 2 (fieldsOf (m .command)))) m)
-    id-listed = subst (λ (l : List Field). T (allFit l m)) (fields-headed (m .command)) fields-fit
+module _ (m : Message) (d : List ℕ) (t : fits m d ≡ true) where
+  faultless : Faultless (partOf m d) 0 (fieldsOf (commandIn (m .body)))
+  unfolding faultIn
+  faultless = eqb-true (faultIn m d) 0 t
 
-    pub id-fits : SFits w64 (m .«op_id»)
-    unfolding within rowsOf partIn kinds kindIn
-    id-fits = let l = drop 2 (fieldsOf (m .command)) in in-64 (m .«op_id») (fits-first (need "opId" signed64) l (fits-from 1 (headed l) id-listed))
+  pub id-fits : SFits w64 (m .«op_id»)
+  unfolding within rowsOf partIn kinds kindIn
+  id-fits =
+      let l = drop 2 (fieldsOf (commandIn (m .body))) in
+      let behind = first-fits (partOf m d) 0 _ _ (subst (Faultless (partOf m d) 0) (fields-headed (commandIn (m .body))) faultless) .1 in
+      in-64 (m .«op_id») (first-fits (partOf m d) 1 _ l behind .0)
 
-    -- the fields of a con
-    module _ (e : m .command ≡ 0) where
-      con-fits : T (allFit (fieldsOf 0) m)
-      con-fits = subst (λ (c : ℕ). T (allFit (fieldsOf c) m)) e fields-fit
-
-      pub eui-fits : m .«bs_eui» < 2 ^ 64
-      unfolding within rowsOf partIn lists listIn kinds kindIn
-      eui-fits = omega (arith, leb→le (m .«bs_eui») 0xFFFFFFFFFFFFFFFF (fits-first _ _ (fits-from 3 (fieldsOf 0) con-fits)))
-
-      pub uuid-fits : length (m .«sn_bs_uuid») ≡ 16
-      unfolding within rowsOf partIn lists listIn kinds kindIn
-      uuid-fits =
-          let n = length (m .«sn_bs_uuid») in
-          let t : T ((leb 16 n && leb n 16) && areBytes (m .«sn_bs_uuid»)) = fits-first _ _ (fits-from 6 (fieldsOf 0) con-fits) in
-          let b = both-left (leb 16 n && leb n 16) (areBytes (m .«sn_bs_uuid»)) t in
-          omega (arith, leb→le 16 n (both-left (leb 16 n) (leb n 16) b), leb→le n 16 (both-right (leb 16 n) (leb n 16) b))
+  pub eui-fits : (x : Con) → m .body ≡ Body.Con x → x .«bs_eui» < 2 ^ 64
+  unfolding within rowsOf bodyRows partIn lists listIn kinds kindIn
+  eui-fits x e =
+      let p = partOf (withBody (Body.Con x)) d in
+      let all : Faultless p 0 (fieldsOf 0) = subst (λ (b : Body). Faultless (partOf (withBody b) d) 0 (fieldsOf (commandIn b))) e faultless in
+      let behind = first-fits p 2 _ _ (first-fits p 1 _ _ (first-fits p 0 _ _ all .1) .1) .1 in
+      omega (arith, leb→le (x .«bs_eui») 0xFFFFFFFFFFFFFFFF (first-fits p 3 _ _ behind .0))
+    where
+      withBody : Body → Message
+      withBody b = record { «op_id» = m .«op_id»; body = b }

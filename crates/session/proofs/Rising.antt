@@ -7,29 +7,30 @@ use mathlib.Core.List.{List}
 use mathlib.Core.Option.{Option, some, none}
 use Prim.Native.Nat.{ℕ, suc}
 use native.Mathlib.Omega.{arith}
-use lib.Dec.{T, ltb, lt→ltb}
+use lib.Dec.{T, lt→ltb}
 use lib.IntN.{ℤ, pos, negsuc}
 use borrow.Author.Tests.{le-ltb}
 use Rattle.octets.specs.Choice.{either}
-use Rattle.message.specs.declared.Message.{Message}
-use Rattle.saying.specs.Fits.{fits}
+use Rattle.record.specs.declared.Message.{Message}
+use Rattle.record.specs.Record.{fourOf, commandIn}
+use Rattle.record.specs.Fits.{fits}
 use Rattle.session.specs.Session.{State, Session, Host}
 use Rattle.session.specs.Session.State.{Waiting, Connecting, Open}
-use Rattle.session.specs.Place.{sameId, freePlace, taken}
+use Rattle.session.specs.Place.{sameId, freePlace}
 use Rattle.session.specs.Kinds.{Operation, stationStarts, centreStarts, operationBy}
-use Rattle.session.specs.Arrive.{Outcome, below, highestOf, lowestOf, resumes, withCentre, startAt, orElse, inOpen, whenOpen, inState, arrives}
-use Rattle.session.specs.Happened.{isIssued}
-use Rattle.session.specs.Centre.{oneBelow, lastId, underId, beginAt, begins, ifOpen, centreBegins}
+use Rattle.session.specs.Arrive.{Outcome, below, highestOf, lowestOf, startAt, starts, inOpen, inState, arrives}
+use Rattle.session.specs.Centre.{oneBelow, lastId, underId, beginAt, kindBegins, ifOpen, centreBegins}
 use Rattle.session.specs.Run.{Event, reached, after, ifDone, whileOpen, ifStart, acceptedIn, issuedIn, isWaiting, hasBegun, beginsAnew, Rising, Falling}
-use Rattle.session.proofs.Moves.{Steady, Moves, Goes, lost-keeps, waited, connecting-keeps, ending-keeps, from-waited, ordered}
+use Rattle.session.proofs.Cases.{by-test, by-result, by-choice}
+use Rattle.session.proofs.Moves.{Steady, Keeps, Moves, Goes, lost-keeps, waited, connecting-keeps, ending-keeps, from-waited, ordered}
 use Rattle.session.proofs.Moves.Moves.{kept, moved}
-use Rattle.session.proofs.Moves.Goes.{anew, on}
+use Rattle.session.proofs.Moves.Goes.{on}
 
 highest-steady : Steady highestOf
-highest-steady = record { resuming = λ s. refl; opening = λ s. refl; storing = λ s. refl; completing = λ s t. refl; responding = λ s t. refl }
+highest-steady = record { beginning = λ h x. refl; resuming = λ s. refl; opening = λ s. refl; storing = λ s. refl; completing = λ s t. refl; responding = λ s t. refl }
 
 lowest-steady : Steady lowestOf
-lowest-steady = record { resuming = λ s. refl; opening = λ s. refl; storing = λ s. refl; completing = λ s t. refl; responding = λ s t. refl }
+lowest-steady = record { beginning = λ h x. refl; resuming = λ s. refl; opening = λ s. refl; storing = λ s. refl; completing = λ s t. refl; responding = λ s t. refl }
 
 -- what is above the highest is above zero
 above-zero : (h z : ℤ) → T (below (either (below h (pos 0)) (λ _. pos 0) (λ _. h)) z) → below z (pos 0) ≡ false
@@ -40,22 +41,22 @@ above-zero (negsuc a) (negsuc k) t = absurd t
 abbrev Raises : Session → Session → Option ℤ → Type 0
 Raises s t o = Moves highestOf below s t o
 
-module _ (s : Session) (m : Message) (h : Host) where
-  started : (o : Operation) (p : Option ℕ) → T (below (highestOf s) (m .«op_id»)) → Raises s (reached s (startAt s h o (m .«op_id») p)) (ifDone (startAt s h o (m .«op_id») p) (m .«op_id»))
+module _ (s : Session) (m : Message) (d : List ℕ) (h : Host) where
+  abbrev Raised : Outcome → Type 0
+  Raised o = Raises s (reached s o) (ifDone o (m .«op_id»))
+
+  started : (o : Operation) (p : Option ℕ) → T (below (highestOf s) (m .«op_id»)) → Raised (startAt s (fourOf (h .sign)) o (m .«op_id») p)
   started o none t = kept refl
   started o (some i) t = moved (m .«op_id») t (rw (above-zero (s .highest) (m .«op_id») t))
 
-  start-raises : (o : Operation) (b : Bool) → below (highestOf s) (m .«op_id») ≡ b
-      → Raises s (reached s (either b (λ _. startAt s h o (m .«op_id») (freePlace (s .station))) (λ _. Outcome.refused 18)))
-      (ifDone (either b (λ _. startAt s h o (m .«op_id») (freePlace (s .station))) (λ _. Outcome.refused 18)) (m .«op_id»))
-  start-raises o true e = started o (freePlace (s .station)) (rw e tt)
-  start-raises o false e = kept refl
+  start-raises : (o : Operation) → Raised (starts s (fourOf (h .sign)) o (m .«op_id»))
+  start-raises o = by-result Raised (below (highestOf s) (m .«op_id»)) _ _ (λ e. started o (freePlace (s .station)) (rw e tt)) (λ e. kept refl)
 
-  open-raises : (p : Option Operation) → operationBy (λ o. o .start) stationStarts (m .command) ≡ p → Raises s (reached s (inOpen s m h)) (ifStart p (ifDone (inOpen s m h) (m .«op_id»)))
-  unfolding whenOpen
+  open-raises : (p : Option Operation) → operationBy (λ o. o .start) stationStarts (commandIn (m .body)) ≡ p → Raises s (reached s (inOpen s (fourOf (h .sign)) (commandIn (m .body)) (m .«op_id»))) (ifStart p (ifDone (inOpen s (fourOf (h .sign)) (commandIn (m .body)) (m .«op_id»)) (m .«op_id»)))
+  unfolding inOpen
   open-raises none e =
-      rw e (kept (ending-keeps highestOf highest-steady s m h (operationBy (λ o. o .cmp) stationStarts (m .command)) (operationBy (λ o. o .rsp) centreStarts (m .command))))
-  open-raises (some o) e = rw e (start-raises o (below (highestOf s) (m .«op_id»)) refl)
+      rw e (kept (ending-keeps highestOf highest-steady s (m .«op_id») (operationBy (λ o. o .cmp) stationStarts (commandIn (m .body))) (operationBy (λ o. o .rsp) centreStarts (commandIn (m .body)))))
+  open-raises (some o) e = rw e (start-raises o)
 
   unfit : (x : State) (o : Option Operation) → whileOpen x (ifStart o none) ≡ none
   unfit Waiting o = refl
@@ -67,53 +68,54 @@ module _ (s : Session) (m : Message) (h : Host) where
   judged x b = either b (λ _. inState x s m h) (λ _. Outcome.refused 15)
 
   abbrev accepted : State → Bool → Option ℤ
-  accepted x b = whileOpen x (ifStart (operationBy (λ o. o .start) stationStarts (m .command)) (ifDone (judged x b) (m .«op_id»)))
+  accepted x b = whileOpen x (ifStart (operationBy (λ o. o .start) stationStarts (commandIn (m .body))) (ifDone (judged x b) (m .«op_id»)))
 
   connecting-raises : (b : Bool) → Raises s (reached s (judged Connecting b)) none
-  connecting-raises true = kept (connecting-keeps highestOf highest-steady s m h)
+  connecting-raises true = kept (connecting-keeps highestOf highest-steady s (commandIn (m .body)) (m .«op_id»))
   connecting-raises false = kept refl
 
   opened-raises : (b : Bool) → Raises s (reached s (judged Open b)) (accepted Open b)
-  opened-raises true = open-raises (operationBy (λ o. o .start) stationStarts (m .command)) refl
-  opened-raises false = rw (unfit Open (operationBy (λ o. o .start) stationStarts (m .command))) (kept refl)
+  opened-raises true = open-raises (operationBy (λ o. o .start) stationStarts (commandIn (m .body))) refl
+  opened-raises false = rw (unfit Open (operationBy (λ o. o .start) stationStarts (commandIn (m .body)))) (kept refl)
 
-  state-raises : (x : State) → Goes highestOf below s (reached s (judged x (fits m))) (isWaiting x && hasBegun (judged x (fits m))) (accepted x (fits m))
-  state-raises Waiting = from-waited highestOf below highest-steady s m h (judged Waiting (fits m)) refl (waited highestOf highest-steady s m h)
-  state-raises Connecting = on none (connecting-raises (fits m))
-  state-raises Open = on (accepted Open (fits m)) (opened-raises (fits m))
+  state-raises : (x : State) → Goes highestOf below s (reached s (judged x (fits m d))) (isWaiting x && hasBegun (judged x (fits m d))) (accepted x (fits m d))
+  state-raises Waiting = from-waited highestOf below highest-steady s (judged Waiting (fits m d)) (waited highestOf highest-steady s m d h)
+  state-raises Connecting = on none (connecting-raises (fits m d))
+  state-raises Open = on (accepted Open (fits m d)) (opened-raises (fits m d))
 
-  arrival-raises : Goes highestOf below s (after s (Event.arrival m h)) (beginsAnew s (Event.arrival m h)) (acceptedIn s (Event.arrival m h))
+  arrival-raises : Goes highestOf below s (after s (Event.arrival m d h)) (beginsAnew s (Event.arrival m d h)) (acceptedIn s (Event.arrival m d h))
   unfolding arrives
   arrival-raises = state-raises (s .state)
 
   -- an arrival leaves the centre's lowest
-  place-keeps : (o : Operation) (p : Option ℕ) → lowestOf (reached s (startAt s h o (m .«op_id») p)) ≡ lowestOf s
+  abbrev Keeps-lowest : Outcome → Type 0
+  Keeps-lowest o = Keeps lowestOf lowest-steady s o
+
+  place-keeps : (o : Operation) (p : Option ℕ) → Keeps-lowest (startAt s (fourOf (h .sign)) o (m .«op_id») p)
   place-keeps o none = refl
   place-keeps o (some i) = refl
 
-  start-keeps : (o : Operation) (b : Bool) → lowestOf (reached s (either b (λ _. startAt s h o (m .«op_id») (freePlace (s .station))) (λ _. Outcome.refused 18))) ≡ lowestOf s
-  start-keeps o true = place-keeps o (freePlace (s .station))
-  start-keeps o false = refl
+  start-keeps : (o : Operation) → Keeps-lowest (starts s (fourOf (h .sign)) o (m .«op_id»))
+  start-keeps o = by-test Keeps-lowest (below (highestOf s) (m .«op_id»)) _ _ (place-keeps o (freePlace (s .station))) refl
 
-  open-keeps : (p : Option Operation) → operationBy (λ o. o .start) stationStarts (m .command) ≡ p → lowestOf (reached s (inOpen s m h)) ≡ lowestOf s
-  unfolding whenOpen
-  open-keeps none e = rw e (ending-keeps lowestOf lowest-steady s m h (operationBy (λ o. o .cmp) stationStarts (m .command)) (operationBy (λ o. o .rsp) centreStarts (m .command)))
-  open-keeps (some o) e = rw e (start-keeps o (below (highestOf s) (m .«op_id»)))
+  open-keeps : Keeps-lowest (inOpen s (fourOf (h .sign)) (commandIn (m .body)) (m .«op_id»))
+  unfolding inOpen
+  open-keeps =
+      by-choice Keeps-lowest (operationBy (λ o. o .start) stationStarts (commandIn (m .body))) _ _ start-keeps
+      (ending-keeps lowestOf lowest-steady s (m .«op_id») (operationBy (λ o. o .cmp) stationStarts (commandIn (m .body))) (operationBy (λ o. o .rsp) centreStarts (commandIn (m .body))))
 
-  connecting-lowers : (b : Bool) → lowestOf (reached s (judged Connecting b)) ≡ lowestOf s
-  connecting-lowers true = connecting-keeps lowestOf lowest-steady s m h
-  connecting-lowers false = refl
+  connecting-lowers : Keeps-lowest (judged Connecting (fits m d))
+  connecting-lowers = by-test Keeps-lowest (fits m d) _ _ (connecting-keeps lowestOf lowest-steady s (commandIn (m .body)) (m .«op_id»)) refl
 
-  opened-keeps : (b : Bool) → lowestOf (reached s (judged Open b)) ≡ lowestOf s
-  opened-keeps true = open-keeps (operationBy (λ o. o .start) stationStarts (m .command)) refl
-  opened-keeps false = refl
+  opened-keeps : Keeps-lowest (judged Open (fits m d))
+  opened-keeps = by-test Keeps-lowest (fits m d) _ _ open-keeps refl
 
-  state-keeps : (x : State) → Goes lowestOf (λ a z. below z a) s (reached s (judged x (fits m))) (isWaiting x && hasBegun (judged x (fits m))) none
-  state-keeps Waiting = from-waited lowestOf (λ a z. below z a) lowest-steady s m h (judged Waiting (fits m)) refl (waited lowestOf lowest-steady s m h)
-  state-keeps Connecting = on none (kept (connecting-lowers (fits m)))
-  state-keeps Open = on none (kept (opened-keeps (fits m)))
+  state-keeps : (x : State) → Goes lowestOf (λ a z. below z a) s (reached s (judged x (fits m d))) (isWaiting x && hasBegun (judged x (fits m d))) none
+  state-keeps Waiting = from-waited lowestOf (λ a z. below z a) lowest-steady s (judged Waiting (fits m d)) (waited lowestOf lowest-steady s m d h)
+  state-keeps Connecting = on none (kept connecting-lowers)
+  state-keeps Open = on none (kept opened-keeps)
 
-  arrival-keeps : Goes lowestOf (λ a z. below z a) s (after s (Event.arrival m h)) (beginsAnew s (Event.arrival m h)) none
+  arrival-keeps : Goes lowestOf (λ a z. below z a) s (after s (Event.arrival m d h)) (beginsAnew s (Event.arrival m d h)) none
   unfolding arrives
   arrival-keeps = state-keeps (s .state)
 
@@ -129,56 +131,50 @@ still-lowest (negsuc k) = refl
 abbrev Lowers : Session → Session → Option ℤ → Type 0
 Lowers s t o = Moves lowestOf (λ a z. below z a) s t o
 
-module _ (s : Session) (m : Message) where
+module _ (s : Session) (m : Message) (d : List ℕ) where
   abbrev issued : ℤ
   issued = oneBelow (lowestOf s)
 
+  abbrev Lowered : Outcome → Type 0
+  Lowered o = Lowers s (reached s o) (ifDone o issued)
+
   -- a record that is written under the ID issued, or refused
-  written : (o : Operation) (i : ℕ) (f : Bool)
-      → Lowers s (reached s (either f (λ _. Outcome.replies isIssued (withCentre s issued (taken (s .centre) i issued (o .start))) (underId issued m)) (λ _. Outcome.refused 15)))
-      (ifDone (either f (λ _. Outcome.replies isIssued (withCentre s issued (taken (s .centre) i issued (o .start))) (underId issued m)) (λ _. Outcome.refused 15)) issued)
-  written o i true = moved issued (one-below (lowestOf s)) (rw (still-lowest (lowestOf s)))
-  written o i false = kept refl
+  issue-lowers : (o : Operation) (p : Option ℕ) → Lowered (beginAt s o issued (underId issued m) d p)
+  issue-lowers o none = kept refl
+  issue-lowers o (some i) = by-test Lowered (fits (underId issued m) d) _ _ (moved issued (one-below (lowestOf s)) (rw (still-lowest (lowestOf s)))) (kept refl)
 
-  begun-lowers : (o : Operation) (p : Option ℕ) (b : Bool)
-      → Lowers s (reached s (either b (λ _. Outcome.refused 18) (λ _. beginAt s o issued (underId issued m) p))) (ifDone (either b (λ _. Outcome.refused 18) (λ _. beginAt s o issued (underId issued m) p)) issued)
-  begun-lowers o p true = kept refl
-  begun-lowers o none false = kept refl
-  begun-lowers o (some i) false = written o i (fits (underId issued m))
-
-  centre-lowers : (x : State) (p : Option Operation)
-      → Lowers s (reached s (ifOpen x (λ _. orElse p (λ o. begins s o m) (λ _. Outcome.refused 17)))) (ifDone (ifOpen x (λ _. orElse p (λ o. begins s o m) (λ _. Outcome.refused 17))) issued)
-  centre-lowers Waiting p = kept refl
-  centre-lowers Connecting p = kept refl
-  centre-lowers Open none = kept refl
-  centre-lowers Open (some o) = begun-lowers o (freePlace (s .centre)) (sameId (lowestOf s) lastId)
+  centre-lowers : (x : State) → Lowered (ifOpen x (λ _. kindBegins s (commandIn (m .body)) m d))
+  centre-lowers Waiting = kept refl
+  centre-lowers Connecting = kept refl
+  centre-lowers Open =
+      by-choice Lowered (operationBy (λ o. o .start) centreStarts (commandIn (m .body))) _ _
+      (λ o. by-test Lowered (sameId (lowestOf s) lastId) _ _ (kept refl) (issue-lowers o (freePlace (s .centre)))) (kept refl)
 
   -- and the highest stays
-  written-keeps : (o : Operation) (i : ℕ) (f : Bool) → highestOf (reached s (either f (λ _. Outcome.replies isIssued (withCentre s issued (taken (s .centre) i issued (o .start))) (underId issued m)) (λ _. Outcome.refused 15))) ≡ highestOf s
-  written-keeps o i true = refl
-  written-keeps o i false = refl
+  abbrev Keeps-highest : Outcome → Type 0
+  Keeps-highest o = Keeps highestOf highest-steady s o
 
-  begun-keeps : (o : Operation) (p : Option ℕ) (b : Bool) → highestOf (reached s (either b (λ _. Outcome.refused 18) (λ _. beginAt s o issued (underId issued m) p))) ≡ highestOf s
-  begun-keeps o p true = refl
-  begun-keeps o none false = refl
-  begun-keeps o (some i) false = written-keeps o i (fits (underId issued m))
+  issue-keeps : (o : Operation) (p : Option ℕ) → Keeps-highest (beginAt s o issued (underId issued m) d p)
+  issue-keeps o none = refl
+  issue-keeps o (some i) = by-test Keeps-highest (fits (underId issued m) d) _ _ refl refl
 
-  centre-keeps : (x : State) (p : Option Operation) → highestOf (reached s (ifOpen x (λ _. orElse p (λ o. begins s o m) (λ _. Outcome.refused 17)))) ≡ highestOf s
-  centre-keeps Waiting p = refl
-  centre-keeps Connecting p = refl
-  centre-keeps Open none = refl
-  centre-keeps Open (some o) = begun-keeps o (freePlace (s .centre)) (sameId (lowestOf s) lastId)
+  centre-keeps : (x : State) → Keeps-highest (ifOpen x (λ _. kindBegins s (commandIn (m .body)) m d))
+  centre-keeps Waiting = refl
+  centre-keeps Connecting = refl
+  centre-keeps Open =
+      by-choice Keeps-highest (operationBy (λ o. o .start) centreStarts (commandIn (m .body))) _ _
+      (λ o. by-test Keeps-highest (sameId (lowestOf s) lastId) _ _ refl (issue-keeps o (freePlace (s .centre)))) refl
 
 step-raises : (s : Session) (e : Event) → Goes highestOf below s (after s e) (beginsAnew s e) (acceptedIn s e)
 unfolding centreBegins
-step-raises s (Event.arrival m h) = arrival-raises s m h
-step-raises s (Event.beginning m) = on none (kept (centre-keeps s m (s .state) (operationBy (λ o. o .start) centreStarts (m .command))))
+step-raises s (Event.arrival m d h) = arrival-raises s m d h
+step-raises s (Event.beginning m d) = on none (kept (centre-keeps s m d (s .state)))
 step-raises s Event.loss = on none (kept (lost-keeps highestOf highest-steady s))
 
 step-lowers : (s : Session) (e : Event) → Goes lowestOf (λ a z. below z a) s (after s e) (beginsAnew s e) (issuedIn s e)
 unfolding centreBegins
-step-lowers s (Event.arrival m h) = arrival-keeps s m h
-step-lowers s (Event.beginning m) = on (issuedIn s (Event.beginning m)) (centre-lowers s m (s .state) (operationBy (λ o. o .start) centreStarts (m .command)))
+step-lowers s (Event.arrival m d h) = arrival-keeps s m d h
+step-lowers s (Event.beginning m d) = on (issuedIn s (Event.beginning m d)) (centre-lowers s m d (s .state))
 step-lowers s Event.loss = on none (kept (lost-keeps lowestOf lowest-steady s))
 
 -- the stations' IDs rise, from any session on, the empty one among them

@@ -1,31 +1,31 @@
 -- Document 01, "Session": what a session answers to a record that arrives.
-use Prim.Native.Nat.{ℕ, zero, suc}
+use Prim.Native.Nat.{ℕ}
 use mathlib.Core.Bool.{Bool, true, false, not, _&&_, _||_}
-use mathlib.Core.List.{List, [], _∷_}
+use mathlib.Core.List.{List, []}
 use mathlib.Core.Option.{Option, some, none}
-use lib.Dec.{eqb, leb, ltb}
-use lib.IntN.{ℤ, pos, negsuc}
-use lib.ListN.{replicate}
+use lib.Dec.{eqb}
+use lib.IntN.{ℤ, pos}
 use lib.Signed.{ltZ}
 use Rattle.octets.specs.Choice.{either}
 use Rattle.names.specs.Names.{bytes, sameBytes, commandOf}
-use Rattle.field.specs.Kind.{Value}
-use Rattle.field.specs.Cell.{Cell}
-use Rattle.message.specs.Record.{messageOf, blank}
-use Rattle.message.specs.declared.MaybeId.{MaybeId}
-use Rattle.message.specs.declared.Message.{Message}
-use Rattle.saying.specs.Fits.{fits}
+use Rattle.record.specs.declared.Sixteen.{Sixteen}
+use Rattle.record.specs.declared.Con.{Con}
+use Rattle.record.specs.declared.Body.{Body}
+use Rattle.record.specs.declared.Message.{Message}
+use Rattle.record.specs.Record.{fourOf, sixteenOf, commandIn}
+use Rattle.record.specs.Says.{sixteenBytes}
+use Rattle.record.specs.Fits.{fits}
 use Rattle.session.specs.Session.{State, Entry, Session, Host}
 use Rattle.session.specs.Session.State.{Waiting, Connecting, Open}
 use Rattle.session.specs.Place.{sameId, freePlace, placeOf, taken, freed, allFree}
 use Rattle.session.specs.Kinds.{Operation, stationStarts, centreStarts, operationBy}
 use Rattle.session.specs.Happened.{isBegun, isResumed, isOpened, isStarted, isCompleted, isAnswered}
 
--- a refusal; or what happened, the session after the step and the message that is to be sent
+-- a refusal; or what happened, the session after the step, and the message that is to be sent with the bytes that are lent beside it
 pub data Outcome : Type 0 where
   refused : ℕ → Outcome
   silent : ℕ → Session → Outcome
-  replies : ℕ → Session → Message → Outcome
+  replies : ℕ → Session → Message → List ℕ → Outcome
 
 -- a is below b
 abbrev pub below : ℤ → ℤ → Bool
@@ -38,42 +38,34 @@ highestOf s = either (below (s .highest) (pos 0)) (λ _. pos 0) (λ _. s .highes
 abbrev pub lowestOf : Session → ℤ
 lowestOf s = either (below (pos 0) (s .lowest)) (λ _. pos 0) (λ _. s .lowest)
 
--- the message of a command under an ID, with what is said of some keys
-abbrev pub saying : (List ℕ → Cell) → List ℕ → Value → List ℕ → Cell
-saying look k v u = either (sameBytes k u) (λ _. Cell.good v) (λ _. look u)
-
-abbrev pub bare : ℤ → List ℕ → Cell
-bare z = saying (λ k. Cell.missing) (bytes "opId") (Value.number z)
-
+-- a message that has nothing more than its ID
 abbrev pub bareOf : ℕ → ℤ → Message
-bareOf c z = messageOf c (bare z)
+bareOf c z = record { «op_id» = z; body = Body.Bare c }
 
 -- conRsp: version 1.0.0, the host's scEui, whether it resumed, the session's centre UUID
-abbrev pub conRspOf : Host → Bool → List ℕ → Message
-conRspOf h resumed uuid =
-    messageOf (commandOf (bytes "conRsp"))
-    (saying (saying (saying (saying (bare (pos 0))
-    (bytes "version") (Value.release 1 0 0))
-    (bytes "scEui") (Value.number (pos (h .scEui))))
-    (bytes "snResume") (Value.mark resumed))
-    (bytes "snScUuid") (Value.string uuid))
-
-abbrev pub detRspOf : ℤ → List ℕ → Message
-detRspOf z sign = messageOf (commandOf (bytes "detRsp")) (saying (bare z) (bytes "sign") (Value.string sign))
+abbrev pub conRspOf : ℕ → Bool → Sixteen → Message
+conRspOf eui resumed uuid =
+    record {
+      «op_id» = pos 0;
+      body = Body.ConRsp (record { version = record { here = true; major = 1; minor = 0; patch = 0 }; «sc_eui» = eui; «sn_resume» = resumed; «sn_sc_uuid» = uuid });
+    }
 
 -- the reply to a station's start: detRsp carries the host's sign
-abbrev pub rspOf : Host → ℕ → ℤ → Message
-rspOf h c z = either (eqb c (commandOf (bytes "detRsp"))) (λ _. detRspOf z (h .sign)) (λ _. bareOf c z)
+abbrev pub detRspOf : ℤ → ℕ → Message
+detRspOf z sign = record { «op_id» = z; body = Body.DetRsp sign }
+
+abbrev pub rspOf : ℕ → ℕ → ℤ → Message
+rspOf sign c z = either (eqb c (commandOf (bytes "detRsp"))) (λ _. detRspOf z sign) (λ _. bareOf c z)
 
 -- it resumes exactly if a session is stored with the same bsEui and snBsUuid, an snBsOpId if present is at most the highest station ID known,
 -- and an snScOpId if present is at least the lowest centre ID issued
-abbrev pub resumes : Session → Message → Bool
-resumes s m =
+abbrev pub resumes : Session → Con → Bool
+resumes s x =
     s .stored
-    && (eqb (s .bsEui) (m .«bs_eui»)
-    && (sameBytes (s .snBsUuid) (m .«sn_bs_uuid»)
-    && ((not (m .«sn_bs_op_id» .here) || not (below (highestOf s) (m .«sn_bs_op_id» .value)))
-    && (not (m .«sn_sc_op_id» .here) || not (below (m .«sn_sc_op_id» .value) (lowestOf s))))))
+    && (eqb (s .bsEui) (x .«bs_eui»)
+    && (sameBytes (s .snBsUuid) (sixteenBytes (x .«sn_bs_uuid»))
+    && ((not (x .«sn_bs_op_id» .here) || not (below (highestOf s) (x .«sn_bs_op_id» .value)))
+    && (not (x .«sn_sc_op_id» .here) || not (below (x .«sn_sc_op_id» .value) (lowestOf s))))))
 
 -- the session as it is, in another state, stored or not
 abbrev pub moved : State → Bool → Session → Session
@@ -86,33 +78,46 @@ resumed s = moved Connecting (s .stored) s
 abbrev pub begunWith : ℕ → List ℕ → List ℕ → Session
 begunWith eui bsUuid scUuid = record { state = Connecting; stored = false; bsEui = eui; snBsUuid = bsUuid; snScUuid = scUuid; highest = pos 0; lowest = pos 0; station = allFree; centre = allFree }
 
-abbrev pub begun : Host → Message → Session
-begun h m = begunWith (m .«bs_eui») (m .«sn_bs_uuid») (h .uuid)
+abbrev pub begun : Host → Con → Session
+begun h x = begunWith (x .«bs_eui») (sixteenBytes (x .«sn_bs_uuid»)) (h .uuid)
 
-abbrev pub connects : Session → Message → Host → Outcome
-connects s m h =
-    either (resumes s m)
-    (λ _. Outcome.replies isResumed (resumed s) (conRspOf h true (s .snScUuid)))
-    (λ _. Outcome.replies isBegun (begun h m) (conRspOf h false (h .uuid)))
+abbrev pub connects : Session → Con → Host → Outcome
+connects s x h =
+    either (resumes s x)
+    (λ _. Outcome.replies isResumed (resumed s) (conRspOf (h .scEui) true (sixteenOf (s .snScUuid))) [])
+    (λ _. Outcome.replies isBegun (begun h x) (conRspOf (h .scEui) false (sixteenOf (h .uuid))) [])
+
+abbrev pub conIn : Body → Option Con
+conIn (Body.Con x) = some x
+conIn (Body.ConRsp x) = none
+conIn (Body.StatusRsp x) = none
+conIn (Body.Det x) = none
+conIn (Body.DetRsp sign) = none
+conIn (Body.AttPrp x) = none
+conIn (Body.DetPrp eui) = none
+conIn (Body.UlData x) = none
+conIn (Body.Bare c) = none
+
+abbrev pub orElse : {A : Type 0} → Option A → (A → Outcome) → (Unit {0} → Outcome) → Outcome
+orElse none f g = g tt
+orElse (some a) f g = f a
 
 -- waiting takes only con; tests 17, 18 (opId must be 0), 16
+abbrev pub takesCon : Session → ℤ → Con → Host → Outcome
+takesCon s z x h =
+    either (sameId z (pos 0))
+    (λ _. either (eqb (x .version .major) 1 && eqb (x .version .minor) 0) (λ _. connects s x h) (λ _. Outcome.refused 16))
+    (λ _. Outcome.refused 18)
+
 unfoldable pub inWaiting : Session → Message → Host → Outcome
-inWaiting s m h =
-    either (eqb (m .command) (commandOf (bytes "con")))
-    (λ _. either (sameId (m .«op_id») (pos 0))
-    (λ _. either (eqb (m .version .major) 1 && eqb (m .version .minor) 0)
-    (λ _. connects s m h)
-    (λ _. Outcome.refused 16))
-    (λ _. Outcome.refused 18))
-    (λ _. Outcome.refused 17)
+inWaiting s m h = orElse (conIn (m .body)) (λ x. takesCon s (m .«op_id») x h) (λ _. Outcome.refused 17)
 
 -- conCmp with ID 0 opens; all else is 17
 abbrev pub opened : Session → Session
 opened s = moved Open (s .stored) s
 
-unfoldable pub inConnecting : Session → Message → Outcome
-inConnecting s m =
-    either (eqb (m .command) (commandOf (bytes "conCmp")) && sameId (m .«op_id») (pos 0)) (λ _. Outcome.silent isOpened (opened s)) (λ _. Outcome.refused 17)
+unfoldable pub inConnecting : Session → ℕ → ℤ → Outcome
+inConnecting s c z = either (eqb c (commandOf (bytes "conCmp")) && sameId z (pos 0)) (λ _. Outcome.silent isOpened (opened s)) (λ _. Outcome.refused 17)
 
 abbrev pub withStation : Session → ℤ → List Entry → Session
 withStation s z t = record { state = s .state; stored = s .stored; bsEui = s .bsEui; snBsUuid = s .snBsUuid; snScUuid = s .snScUuid; highest = z; lowest = s .lowest; station = t; centre = s .centre }
@@ -121,12 +126,12 @@ abbrev pub withCentre : Session → ℤ → List Entry → Session
 withCentre s z t = record { state = s .state; stored = s .stored; bsEui = s .bsEui; snBsUuid = s .snBsUuid; snScUuid = s .snScUuid; highest = s .highest; lowest = z; station = s .station; centre = t }
 
 -- a station starts with an ID above the highest known and above 0 (18), with a free place (19); the reply is the Rsp
-abbrev pub startAt : Session → Host → Operation → ℤ → Option ℕ → Outcome
-startAt s h o z none = Outcome.refused 19
-startAt s h o z (some i) = Outcome.replies isStarted (withStation s z (taken (s .station) i z (o .start))) (rspOf h (o .rsp) z)
+abbrev pub startAt : Session → ℕ → Operation → ℤ → Option ℕ → Outcome
+startAt s sign o z none = Outcome.refused 19
+startAt s sign o z (some i) = Outcome.replies isStarted (withStation s z (taken (s .station) i z (o .start))) (rspOf sign (o .rsp) z) []
 
-abbrev pub starts : Session → Host → Operation → ℤ → Outcome
-starts s h o z = either (below (highestOf s) z) (λ _. startAt s h o z (freePlace (s .station))) (λ _. Outcome.refused 18)
+abbrev pub starts : Session → ℕ → Operation → ℤ → Outcome
+starts s sign o z = either (below (highestOf s) z) (λ _. startAt s sign o z (freePlace (s .station))) (λ _. Outcome.refused 18)
 
 -- the entry is freed by a Cmp of the same kind and ID
 abbrev pub completeAt : Session → Option ℕ → Outcome
@@ -136,28 +141,21 @@ completeAt s (some i) = Outcome.silent isCompleted (withStation s (s .highest) (
 -- a matching Rsp is replied to with Cmp and frees the entry
 abbrev pub respondAt : Session → Operation → ℤ → Option ℕ → Outcome
 respondAt s o z none = Outcome.refused 17
-respondAt s o z (some i) = Outcome.replies isAnswered (withCentre s (s .lowest) (freed (s .centre) i)) (bareOf (o .cmp) z)
-
-abbrev pub orElse : {A : Type 0} → Option A → (A → Outcome) → (Unit {0} → Outcome) → Outcome
-orElse none f g = g tt
-orElse (some a) f g = f a
+respondAt s o z (some i) = Outcome.replies isAnswered (withCentre s (s .lowest) (freed (s .centre) i)) (bareOf (o .cmp) z) []
 
 -- a start, a Cmp, a Rsp; all else is 17
-unfoldable pub whenOpen : Session → Host → ℕ → ℤ → Outcome
-whenOpen s h c z =
-    orElse (operationBy (λ o. o .start) stationStarts c) (λ o. starts s h o z)
+unfoldable pub inOpen : Session → ℕ → ℕ → ℤ → Outcome
+inOpen s sign c z =
+    orElse (operationBy (λ o. o .start) stationStarts c) (λ o. starts s sign o z)
     (λ _. orElse (operationBy (λ o. o .cmp) stationStarts c) (λ o. completeAt s (placeOf z (o .start) (s .station)))
     (λ _. orElse (operationBy (λ o. o .rsp) centreStarts c) (λ o. respondAt s o z (placeOf z (o .start) (s .centre)))
     (λ _. Outcome.refused 17)))
 
-abbrev pub inOpen : Session → Message → Host → Outcome
-inOpen s m h = whenOpen s h (m .command) (m .«op_id»)
-
 abbrev pub inState : State → Session → Message → Host → Outcome
 inState Waiting s m h = inWaiting s m h
-inState Connecting s m h = inConnecting s m
-inState Open s m h = inOpen s m h
+inState Connecting s m h = inConnecting s (commandIn (m .body)) (m .«op_id»)
+inState Open s m h = inOpen s (fourOf (h .sign)) (commandIn (m .body)) (m .«op_id»)
 
--- 15 before all these
-unfoldable pub arrives : Session → Message → Host → Outcome
-arrives s m h = either (fits m) (λ _. inState (s .state) s m h) (λ _. Outcome.refused 15)
+-- a record with the bytes d that are lent beside it; 15 before all these
+unfoldable pub arrives : Session → Message → List ℕ → Host → Outcome
+arrives s m d h = either (fits m d) (λ _. inState (s .state) s m h) (λ _. Outcome.refused 15)

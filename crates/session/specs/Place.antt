@@ -1,7 +1,7 @@
 -- Document 01, "Session": entries sit in sixteen places for each side; ID 0 is free and never matches; the lowest free place is taken, and of
 -- several matching entries the lowest.
 use Prim.Native.Nat.{ℕ, suc}
-use mathlib.Core.Bool.{Bool, true, false, not, _&&_}
+use mathlib.Core.Bool.{Bool, false, not, _&&_}
 use mathlib.Core.List.{List, [], _∷_}
 use mathlib.Core.Option.{Option, some, none}
 use lib.Dec.{eqb}

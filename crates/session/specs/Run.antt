@@ -6,7 +6,8 @@ use mathlib.Core.Option.{Option, some, none}
 use lib.IntN.{ℤ, pos}
 use lib.Dec.{T, eqb}
 use Rattle.octets.specs.Choice.{either}
-use Rattle.message.specs.declared.Message.{Message}
+use Rattle.record.specs.declared.Message.{Message}
+use Rattle.record.specs.Record.{commandIn}
 use Rattle.session.specs.Session.{State, Session, Host}
 use Rattle.session.specs.Session.State.{Waiting, Connecting, Open}
 use Rattle.session.specs.Kinds.{Operation, stationStarts, operationBy}
@@ -15,25 +16,25 @@ use Rattle.session.specs.Arrive.{Outcome, below, highestOf, lowestOf, ar
 use Rattle.session.specs.Centre.{centreBegins, oneBelow, lost}
 
 pub data Event : Type 0 where
-  arrival : Message → Host → Event
-  beginning : Message → Event
+  arrival : Message → List ℕ → Host → Event
+  beginning : Message → List ℕ → Event
   loss : Event
 
 -- a refused step changes nothing
 abbrev pub reached : Session → Outcome → Session
 reached s (Outcome.refused n) = s
 reached s (Outcome.silent w t) = t
-reached s (Outcome.replies w t m) = t
+reached s (Outcome.replies w t m d) = t
 
 abbrev pub after : Session → Event → Session
-after s (Event.arrival m h) = reached s (arrives s m h)
-after s (Event.beginning m) = reached s (centreBegins s m)
+after s (Event.arrival m d h) = reached s (arrives s m d h)
+after s (Event.beginning m d) = reached s (centreBegins s m d)
 after s Event.loss = lost s
 
 abbrev pub ifDone : Outcome → ℤ → Option ℤ
 ifDone (Outcome.refused n) z = none
 ifDone (Outcome.silent w t) z = some z
-ifDone (Outcome.replies w t m) z = some z
+ifDone (Outcome.replies w t m d) z = some z
 
 abbrev pub whileOpen : State → Option ℤ → Option ℤ
 whileOpen Waiting o = none
@@ -46,15 +47,15 @@ ifStart (some p) o = o
 
 -- the ID of a station's start that is accepted
 abbrev pub acceptedIn : Session → Event → Option ℤ
-acceptedIn s (Event.arrival m h) =
-    whileOpen (s .state) (ifStart (operationBy (λ o. o .start) stationStarts (m .command)) (ifDone (arrives s m h) (m .«op_id»)))
-acceptedIn s (Event.beginning m) = none
+acceptedIn s (Event.arrival m d h) =
+    whileOpen (s .state) (ifStart (operationBy (λ o. o .start) stationStarts (commandIn (m .body))) (ifDone (arrives s m d h) (m .«op_id»)))
+acceptedIn s (Event.beginning m d) = none
 acceptedIn s Event.loss = none
 
 -- the ID that the centre issues
 abbrev pub issuedIn : Session → Event → Option ℤ
-issuedIn s (Event.arrival m h) = none
-issuedIn s (Event.beginning m) = ifDone (centreBegins s m) (oneBelow (lowestOf s))
+issuedIn s (Event.arrival m d h) = none
+issuedIn s (Event.beginning m d) = ifDone (centreBegins s m d) (oneBelow (lowestOf s))
 issuedIn s Event.loss = none
 
 -- a new session begins where a con is taken that does not resume
@@ -66,11 +67,11 @@ isWaiting Open = false
 abbrev pub hasBegun : Outcome → Bool
 hasBegun (Outcome.refused n) = false
 hasBegun (Outcome.silent w t) = false
-hasBegun (Outcome.replies w t m) = eqb w isBegun
+hasBegun (Outcome.replies w t m d) = eqb w isBegun
 
 abbrev pub beginsAnew : Session → Event → Bool
-beginsAnew s (Event.arrival m h) = isWaiting (s .state) && hasBegun (arrives s m h)
-beginsAnew s (Event.beginning m) = false
+beginsAnew s (Event.arrival m d h) = isWaiting (s .state) && hasBegun (arrives s m d h)
+beginsAnew s (Event.beginning m d) = false
 beginsAnew s Event.loss = false
 
 -- an ID, if there is one, is beyond b; and it is the bound from then on
@@ -99,7 +100,7 @@ Falling s es = Ordered (λ a z. below z a) issuedIn (lowestOf s) s es
 abbrev pub happenedOf : Outcome → ℕ
 happenedOf (Outcome.refused n) = 0
 happenedOf (Outcome.silent w t) = w
-happenedOf (Outcome.replies w t m) = w
+happenedOf (Outcome.replies w t m d) = w
 
 abbrev pub lossOf : State → ℕ
 lossOf Waiting = isNothing
@@ -107,8 +108,8 @@ lossOf Connecting = isStored
 lossOf Open = isStored
 
 abbrev pub happenedIn : Session → Event → ℕ
-happenedIn s (Event.arrival m h) = happenedOf (arrives s m h)
-happenedIn s (Event.beginning m) = happenedOf (centreBegins s m)
+happenedIn s (Event.arrival m d h) = happenedOf (arrives s m d h)
+happenedIn s (Event.beginning m d) = happenedOf (centreBegins s m d)
 happenedIn s Event.loss = lossOf (s .state)
 
 -- how many operations of a side are open after a step: a start takes exactly one entry, a Cmp or Rsp frees exactly one, a new session has none

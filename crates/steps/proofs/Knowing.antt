@@ -1,28 +1,28 @@
 -- What a session knows of IDs, as the code computes it: a signed number of 64 bits is kept by the machine, and its tests of order are those
 -- of the definitions. Assumes nothing.
 use mathlib.Core.Path.{_≡_, refl, sym, ap, _∙_}
-use mathlib.Core.Bool.{Bool, true, false, not, _&&_}
+use mathlib.Core.Bool.{Bool, true, false, not, _&&_, _||_}
 use mathlib.Core.List.{List}
-use Prim.Native.Nat.{ℕ, zero, _+_, _≤_, _<_}
-use native.Mathlib.Numerals.{add-one}
+use Prim.Native.Nat.{ℕ, _+_, _≤_, _<_}
 use native.Mathlib.Omega.{arith}
-use lib.Dec.{leb, ltb}
+use lib.Dec.{eqb, leb, ltb}
 use lib.IntN.{ℤ, pos, negsuc}
-use lib.ListN.{length, drop, getD, drop-of-length-le}
-use lib.Seq.{drop-cons}
+use lib.ListN.{length, take, drop, getD}
 use lib.Signed.{mag, ltZ, leZ}
 use mir.Syntax.{w64}
 use mir.Val.{toZ, ofZ}
 use mir.ValLaws.{toZ-ofZ}
-use borrow.Author.Tests.{eq-eqb, ne-eqb, lt-ltb, le-ltb, leb-true, leb-false}
-use Rattle.octets.specs.Choice.{either}
+use borrow.Author.Tests.{lt-ltb, le-ltb, leb-true, leb-false}
 use Rattle.octets.specs.Number.{littleAt, ifThere}
 use Rattle.octets.specs.Signed.{signedOf}
 use Rattle.octets.proofs.Reading.{if-there}
 use Rattle.names.specs.Names.{sameBytes}
+use Rattle.message.specs.declared.MaybeId.{MaybeId}
+use Rattle.record.specs.declared.Con.{Con}
+use Rattle.record.specs.Says.{sixteenBytes}
 use Rattle.session.specs.Session.{Session}
-use Rattle.session.specs.Arrive.{below, highestOf, lowestOf}
-use Rattle.session.specs.Image.{idAt}
+use Rattle.session.specs.Arrive.{below, highestOf, lowestOf, resumes}
+use Rattle.session.specs.Image.{idAt, sessionAt}
 
 pub kept : (z : ℤ) → mag z < 0x8000000000000000 → toZ w64 (ofZ w64 z) ≡ z
 kept z h = toZ-ofZ w64 z (record { sfits = h })
@@ -50,9 +50,6 @@ module _ (s : Session) (z : ℤ) (h : mag z < 0x8000000000000000) where
     pub highest-kept : ltZ (toZ w64 (ofZ w64 z)) (pos 0) ≡ false → toZ w64 (ofZ w64 z) ≡ highestOf s
     highest-kept t = let g : ltZ (s .highest) (pos 0) ≡ false = rw (kept z h, e) at t in rw g (kept z h ∙ e)
 
-    pub highest-bits : mag (s .highest) < 0x8000000000000000
-    highest-bits = rw e at h
-
   module _ (e : z ≡ s .lowest) where
     pub lowest-zero : ltZ (pos 0) (toZ w64 (ofZ w64 z)) ≡ true → pos 0 ≡ lowestOf s
     lowest-zero t = let g : ltZ (pos 0) (s .lowest) ≡ true = rw (kept z h, e) at t in rw g
@@ -71,21 +68,27 @@ le-kept a x y h k e = rw (kept a h, e, kept y k, le-is a y)
 pub ge-kept : (a x y : ℤ) → mag a < 0x8000000000000000 → mag y < 0x8000000000000000 → x ≡ y → leZ (toZ w64 (ofZ w64 x)) (toZ w64 (ofZ w64 a)) ≡ not (below a y)
 ge-kept a x y h k e = rw (kept a h, e, kept y k, le-is y a)
 
--- two UUIDs are compared byte by byte
-module _ (a b : List ℕ) (i : ℕ) where
-  pub same-later : i < length a → i < length b → getD a i 0 ≡ getD b i 0 → sameBytes (drop i a) (drop i b) ≡ sameBytes (drop (i + 1) a) (drop (i + 1) b)
-  same-later f g e = rw (drop-cons a i 0 f, drop-cons b i 0 g, add-one) (simp (eq-eqb (getD a i 0) (getD b i 0) e))
+-- what a con says that it knows, if it says so
+module _ (d : List ℕ) (id : MaybeId) (h : mag (id .value) < 0x8000000000000000) (x : ℤ) (g : mag x < 0x8000000000000000) where
+  pub station-knows : x ≡ highestOf (sessionAt d) → not (id .here) || leZ (toZ w64 (ofZ w64 (id .value))) (toZ w64 (ofZ w64 x)) ≡ not (id .here) || not (below (highestOf (sessionAt d)) (id .value))
+  station-knows e = ap (λ (b : Bool). not (id .here) || b) (le-kept (id .value) x (highestOf (sessionAt d)) h (result-bits x (highestOf (sessionAt d)) g e) e)
 
-  pub same-not : i < length a → i < length b → (getD a i 0 ≡ getD b i 0 → ⊥) → sameBytes (drop i a) (drop i b) ≡ false
-  same-not f g e = rw (drop-cons a i 0 f, drop-cons b i 0 g) (simp (ne-eqb (getD a i 0) (getD b i 0) e))
+  pub centre-knows : x ≡ lowestOf (sessionAt d) → not (id .here) || leZ (toZ w64 (ofZ w64 x)) (toZ w64 (ofZ w64 (id .value))) ≡ not (id .here) || not (below (id .value) (lowestOf (sessionAt d)))
+  centre-knows e = ap (λ (b : Bool). not (id .here) || b) (ge-kept (id .value) x (lowestOf (sessionAt d)) h (result-bits x (lowestOf (sessionAt d)) g e) e)
 
-  pub same-end : length a ≤ i → length b ≤ i → sameBytes (drop i a) (drop i b) ≡ true
-  same-end f g = rw (drop-of-length-le a f, drop-of-length-le b g)
+-- five conditions, each by its own test
+five : (a b x y z : Bool) → (((a && b) && x) && y) && z ≡ a && (b && (x && (y && z)))
+five true true true y z = refl
+five true true false y z = refl
+five true false x y z = refl
+five false b x y z = refl
 
--- five conditions, three of them by their definitions
-pub all-five : (a b x y z u v w : Bool) → x ≡ u → y ≡ v → z ≡ w → (((a && b) && x) && y) && z ≡ a && (b && (u && (v && w)))
-all-five true true true true z u v w e f g = rw (← e, ← f, g)
-all-five true true true false z u v w e f g = rw (← e, ← f)
-all-five true true false y z u v w e f g = rw (← e)
-all-five true false x y z u v w e f g = refl
-all-five false b x y z u v w e f g = refl
+module _ (d : List ℕ) (x : Con) (e : ℕ) (u v w : Bool) where
+  pub resumes-is : 8 ≤ length d → e ≡ ifThere d 0 8 (littleAt d 0 8) → u ≡ sameBytes (take 16 (drop 312 d)) (sixteenBytes (x .«sn_bs_uuid»))
+      → v ≡ not (x .«sn_bs_op_id» .here) || not (below (highestOf (sessionAt d)) (x .«sn_bs_op_id» .value))
+      → w ≡ not (x .«sn_sc_op_id» .here) || not (below (x .«sn_sc_op_id» .value) (lowestOf (sessionAt d)))
+      → (((not (eqb (getD d 345 0) 0) && eqb e (x .«bs_eui»)) && u) && v) && w ≡ resumes (sessionAt d) x
+  unfolding sessionAt
+  resumes-is h p q r s =
+      let f : e ≡ littleAt d 0 8 = p ∙ if-there d 0 8 (littleAt d 0 8) (omega arith) (omega arith) in
+      five (not (eqb (getD d 345 0) 0)) (eqb e (x .«bs_eui»)) u v w ∙ rw (f, q, r, s)

@@ -57,5 +57,3 @@ module _ (d : List ℕ) (b : Bool) (e : b ≡ isSession d) (r : Answer) where
         lost-is Waiting n = absurd (omega arith)
         lost-is Connecting n = refl
         lost-is Open n = refl
-
-pub ruleset losses = (lost-wrong, lost-waiting, lost-stored)

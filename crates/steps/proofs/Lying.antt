@@ -1,7 +1,7 @@
--- The code's test of a session's bytes is the definition's: the spare bytes are looked at one by one. And the state in the bytes is the session's,
--- the entry at a place of them that of the list. Assumes nothing.
+-- The code's test of a session's bytes is the definition's. And the state in the bytes is the session's, the entry at a place of them that of the list.
+-- Assumes nothing.
 use mathlib.Core.Path.{_≡_, sym, ap, ap₂, _∙_}
-use mathlib.Core.Bool.{Bool, false, not, _&&_, and-true, and-assoc}
+use mathlib.Core.Bool.{Bool, false, not, _&&_}
 use mathlib.Core.List.{List}
 use Prim.Native.Nat.{ℕ, zero, suc, _+_, _*_, _≤_, _<_}
 use native.Mathlib.Numerals.{add-one}
@@ -15,29 +15,26 @@ use Rattle.session.specs.Place.{entry, noEntry}
 use Rattle.session.specs.Image.{stateOf, idAt, entriesAt, sessionAt, areZeros, isSession}
 use Rattle.session.proofs.Image.{tested}
 use Rattle.steps.specs.Lies.{Lies}
-use Rattle.steps.proofs.Tests.{set-is}
+use Rattle.steps.proofs.Tests.{set-is, and-assoc, and-true}
 
--- what is known of the spare bytes passed, and those from i on, answer for all of them
-module _ (d : List ℕ) (i : ℕ) (ok all : Bool) (e : ok && areZeros (drop i d) ≡ all) where
-  pub zeros-next : i < length d → (ok && eqb (getD d i 0) 0) && areZeros (drop (i + 1) d) ≡ all
+-- ok says that the bytes passed so far are zeros; those from i on are left
+module _ (d : List ℕ) (from i : ℕ) (ok : Bool) (e : ok && areZeros (drop i d) ≡ areZeros (drop from d)) where
+  pub zeros-next : i < length d → (ok && eqb (getD d i 0) 0) && areZeros (drop (i + 1) d) ≡ areZeros (drop from d)
   unfolding areZeros
   zeros-next h =
       and-assoc ok (eqb (getD d i 0) 0) (areZeros (drop (i + 1) d))
-      ∙ ap (λ (b : Bool). ok && b) (ap (λ (k : ℕ). eqb (getD d i 0) 0 && areZeros (drop k d)) (add-one i) ∙ sym (ap areZeros (drop-cons d i 0 h)))
-      ∙ e
+      ∙ ap (λ (k : ℕ). ok && (eqb (getD d i 0) 0 && areZeros (drop k d))) (add-one i)
+      ∙ ap (λ (l : List ℕ). ok && areZeros l) (sym (drop-cons d i 0 h)) ∙ e
 
-  pub zeros-done : length d ≤ i → ok ≡ all
+  pub zeros-end : length d ≤ i → ok ≡ areZeros (drop from d)
   unfolding areZeros
-  zeros-done h = sym (and-true ok) ∙ ap (λ (b : Bool). ok && b) (sym (ap areZeros (drop-of-length-le d {i = i} h))) ∙ e
+  zeros-end h = sym (and-true ok) ∙ ap (λ (l : List ℕ). ok && areZeros l) (sym (drop-of-length-le d h)) ∙ e
 
-pub ruleset spare = (zeros-next, zeros-done, arith)
-
-pub session-test : (d : List ℕ) → length d ≡ 368 → (z : Bool) → z ≡ areZeros (drop 346 d) → (ltb (getD d 344 0) 3 && ltb (getD d 345 0) 2) && z ≡ isSession d
+pub session-test : (d : List ℕ) (z : Bool) → length d ≡ 368 → z ≡ areZeros (drop 346 d) → (ltb (getD d 344 0) 3 && ltb (getD d 345 0) 2) && z ≡ isSession d
 unfolding isSession
-session-test d long z e =
-    ap (λ (b : Bool). (ltb (getD d 344 0) 3 && ltb (getD d 345 0) 2) && b) e
-    ∙ and-assoc (ltb (getD d 344 0) 3) (ltb (getD d 345 0) 2) (areZeros (drop 346 d))
-    ∙ sym (simp (eq-eqb (length d) 368 long))
+session-test d z long e =
+    and-assoc (ltb (getD d 344 0) 3) (ltb (getD d 345 0) 2) z
+    ∙ ap (λ (x : Bool). ltb (getD d 344 0) 3 && (ltb (getD d 345 0) 2 && x)) e ∙ sym (simp (eq-eqb (length d) 368 long))
 
 pub session-short : (d : List ℕ) → (length d ≡ 368 → ⊥) → false ≡ isSession d
 unfolding isSession

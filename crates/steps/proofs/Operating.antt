@@ -1,75 +1,124 @@
--- What the code does in an open session is what the definitions say, branch by branch. Assumes nothing.
+-- An open session: what each branch of the code leaves is what the rule says, a command found by its number. Each law in the shape of a need of the
+-- code. Assumes nothing.
 use mathlib.Core.Path.{_≡_, refl, sym, ap, _∙_}
-use mathlib.Core.Bool.{true, false}
-use mathlib.Core.Logic.{⊎-elim}
+use mathlib.Core.Bool.{true, false, not}
 use mathlib.Core.List.{List}
-use mathlib.Core.Option.{some}
+use mathlib.Core.Option.{Option, some, none}
 use Prim.Native.Nat.{ℕ, _<_}
-use lib.Dec.{eqb}
 use lib.IntN.{ℤ}
 use lib.Signed.{mag, leZ}
 use mir.Syntax.{w64}
-use mir.Val.{toZ, ofZ}
-use borrow.Author.Tests.{ne-eqb, eqb-true, eqb-false}
+use mir.Val.{SFits, toZ, ofZ}
+use mir.ValLaws.{toZ-ofZ}
+use borrow.Author.Tests.{ne-eqb}
 use Rattle.octets.specs.Choice.{either}
 use Rattle.names.specs.Names.{commands, placeIn, commandOf}
-use Rattle.message.specs.declared.Message.{Message}
-use Rattle.saying.specs.Fits.{fits}
-use Rattle.session.specs.Session.{Session, Host}
-use Rattle.session.specs.Place.{freePlace, taken}
+use Rattle.session.specs.Session.{Session}
+use Rattle.session.specs.Place.{freePlace, placeOf}
 use Rattle.session.specs.Kinds.{Operation, stationStarts, centreStarts, operationBy}
-use Rattle.session.specs.Happened.{isIssued}
-use Rattle.session.specs.Arrive.{Outcome, below, highestOf, withCentre, starts, startAt, whenOpen}
-use Rattle.session.specs.Centre.{beginAt, begins, kindBegins}
-use Rattle.steps.specs.Called.{Called, calledBy}
-use Rattle.steps.proofs.Tests.{unset, set-is, noneOf, none-of, one-of}
-use Rattle.steps.proofs.Knowing.{le-kept}
+use Rattle.session.specs.Arrive.{Outcome, below, highestOf, starts, startAt, completeAt, respondAt, inOpen}
+use Rattle.session.specs.Image.{sessionAt}
+use Rattle.steps.specs.declared.Answer.{Answer}
+use Rattle.steps.specs.Lies.{startedBy, endedBy}
+use Rattle.steps.specs.Called.{Called, called, refusedAs, calledBy}
+use Rattle.steps.proofs.Tests.{unset, set-is}
+use Rattle.steps.proofs.Calls.{by-outcome, refused-call}
+use Rattle.steps.proofs.Knowing.{le-kept, result-bits}
 
--- a station's start: late, or with a place or none
-module _ (s : Session) (h : Host) (o : Operation) (z x : ℤ) (f : mag z < 0x8000000000000000) (g : mag (highestOf s) < 0x8000000000000000) (e : x ≡ highestOf s) where
-  pub start-late : leZ (toZ w64 (ofZ w64 z)) (toZ w64 (ofZ w64 x)) ≡ true → starts s h o z ≡ Outcome.refused 18
-  start-late t = simp (unset (below (highestOf s) z) (sym (le-kept z x (highestOf s) f g e) ∙ t))
+-- a station's start: late or timely, by the highest ID known, x
+module _ (d room : List ℕ) (sign start answer : ℕ) (z : ℤ) (f : SFits w64 z) (x : ℤ) (g : mag x < 0x8000000000000000) (e : x ≡ highestOf (sessionAt d)) where
+  abbrev start-of : ℤ → Outcome
+  start-of y = starts (sessionAt d) sign (startedBy start answer) y
 
-  pub start-timely : leZ (toZ w64 (ofZ w64 z)) (toZ w64 (ofZ w64 x)) ≡ false → starts s h o z ≡ startAt s h o z (freePlace (s .station))
-  start-timely t = simp (set-is (below (highestOf s) z) (sym (le-kept z x (highestOf s) f g e) ∙ t))
+  late-is : leZ (toZ w64 (ofZ w64 z)) (toZ w64 (ofZ w64 x)) ≡ not (below (highestOf (sessionAt d)) z)
+  late-is = le-kept z x (highestOf (sessionAt d)) (f .sfits) (result-bits x (highestOf (sessionAt d)) g e) e
 
--- what a command does in an open session, found by the command's number
-module _ (s : Session) (h : Host) (z : ℤ) (c : ℕ) where
-  pub no-command : (c ≡ 9 → ⊥) → (c ≡ 3 → ⊥) → (c ≡ 7 → ⊥) → (c ≡ 11 → ⊥) → (c ≡ 14 → ⊥) → (c ≡ 20 → ⊥) → (c ≡ 10 → ⊥) → (c ≡ 2 → ⊥) → (c ≡ 15 → ⊥) → (c ≡ 17 → ⊥)
-      → whenOpen s h c z ≡ Outcome.refused 17
-  unfolding whenOpen operationBy stationStarts centreStarts commandOf commands placeIn
-  no-command a b d e f g i j k l =
-      simp (ne-eqb 9 c (λ p. a (sym p)), ne-eqb 3 c (λ p. b (sym p)), ne-eqb 7 c (λ p. d (sym p)), ne-eqb 11 c (λ p. e (sym p)), ne-eqb 14 c (λ p. f (sym p)), ne-eqb 20 c (λ p. g (sym p)), ne-eqb 10 c (λ p. i (sym p)), ne-eqb 2 c (λ p. j (sym p)), ne-eqb 15 c (λ p. k (sym p)), ne-eqb 17 c (λ p. l (sym p)))
+  pub start-late : (r : Answer) → leZ (toZ w64 (ofZ w64 z)) (toZ w64 (ofZ w64 x)) ≡ true → r ≡ refusedAs 18 → _≡_ {A = Called} (called r d room) (calledBy d room (start-of z))
+  start-late r t p = refused-call d room (start-of z) r 18 p (simp (unset (below (highestOf (sessionAt d)) z) (sym late-is ∙ t)))
 
--- and what the centre starts: none of four commands, or one of them
-module _ (s : Session) (m : Message) (c : ℕ) where
-  unlike : (k : ℕ) → eqb c k ≡ false → eqb k c ≡ false
-  unlike k e = ne-eqb k c (λ p. eqb-false c k e (sym p))
+  pub start-timely : (c : Called) → leZ (toZ w64 (ofZ w64 z)) (toZ w64 (ofZ w64 x)) ≡ false
+      → c ≡ calledBy d room (startAt (sessionAt d) sign (startedBy start answer) (toZ w64 (ofZ w64 z)) (freePlace (sessionAt d .station))) → c ≡ calledBy d room (start-of z)
+  start-timely c t p =
+      by-outcome d room c (at-place z) (start-of z) (p ∙ ap (λ (y : ℤ). calledBy d room (at-place y)) (toZ-ofZ w64 z f)) (simp (set-is (below (highestOf (sessionAt d)) z) (sym late-is ∙ t)))
+    where
+      at-place : ℤ → Outcome
+      at-place y = startAt (sessionAt d) sign (startedBy start answer) y (freePlace (sessionAt d .station))
 
-  pub no-kind : noneOf (eqb c 9) (eqb c 12) (eqb c 5) (eqb c 6) ≡ true → kindBegins s c m ≡ Outcome.refused 17
-  unfolding operationBy centreStarts commandOf commands placeIn
-  no-kind t =
-      let n = none-of (eqb c 9) (eqb c 12) (eqb c 5) (eqb c 6) t in
-      simp (unlike 9 (n .0), unlike 12 (n .1), unlike 5 (n .2), unlike 6 (n .3))
+-- what a command does in an open session: a start with its Rsp, a Cmp of a start, a Rsp of a start with its Cmp
+pub record Starts (n a : ℕ) : Type 0 where
+  pub is : (s : Session) (sign : ℕ) (z : ℤ) → inOpen s sign n z ≡ starts s sign (startedBy n a) z
 
-  -- a call that is its step, whatever its Rsp and Cmp
-  module _ (d room : List ℕ) (x : Called) (w : (a b : ℕ) → x ≡ calledBy d room (begins s (record { start = c; rsp = a; cmp = b }) m)) where
-    kind-at : (k a b : ℕ) → kindBegins s k m ≡ begins s (record { start = k; rsp = a; cmp = b }) m → eqb c k ≡ true → x ≡ calledBy d room (kindBegins s c m)
-    kind-at k a b e t =
-        let p : c ≡ k = eqb-true c k t in
-        w a b ∙ ap (λ (n : ℕ). calledBy d room (begins s (record { start = n; rsp = a; cmp = b }) m)) p ∙ ap (calledBy d room) (sym e)
-        ∙ ap (λ (n : ℕ). calledBy d room (kindBegins s n m)) (sym p)
+pub record Completes (n k : ℕ) : Type 0 where
+  pub is : (s : Session) (sign : ℕ) (z : ℤ) → inOpen s sign n z ≡ completeAt s (placeOf z k (s .station))
 
-    pub a-kind : noneOf (eqb c 9) (eqb c 12) (eqb c 5) (eqb c 6) ≡ false → x ≡ calledBy d room (kindBegins s c m)
-    unfolding operationBy centreStarts commandOf commands placeIn
-    a-kind t =
-        ⊎-elim (kind-at 9 10 11 refl) (⊎-elim (kind-at 12 2 13 refl) (⊎-elim (kind-at 5 15 16 refl) (kind-at 6 17 18 refl)))
-        (one-of (eqb c 9) (eqb c 12) (eqb c 5) (eqb c 6) t)
+pub record Answers (n k a : ℕ) : Type 0 where
+  pub is : (s : Session) (sign : ℕ) (z : ℤ) → inOpen s sign n z ≡ respondAt s (endedBy k a) z (placeOf z k (s .centre))
 
--- a place for the centre's operation: its record fits or not, and the writer says which
-module _ (s : Session) (o : Operation) (m : Message) (i : ℕ) (e : freePlace (s .centre) ≡ some i) where
-  abbrev issued : Session
-  issued = withCentre s (m .«op_id») (taken (s .centre) i (m .«op_id») (o .start))
+-- the part of an operation that is not looked at
+start-any : (s : Session) (sign : ℕ) (o : Operation) (z : ℤ) → starts s sign o z ≡ starts s sign (startedBy (o .start) (o .rsp)) z
+start-any s sign o z = ap (λ (x : Outcome). either (below (highestOf s) z) (λ _. x) (λ _. Outcome.refused 18)) (go (freePlace (s .station)))
+  where
+    go : (p : Option ℕ) → startAt s sign o z p ≡ startAt s sign (startedBy (o .start) (o .rsp)) z p
+    go none = refl
+    go (some i) = refl
 
-  pub issue-is : beginAt s o (m .«op_id») m (freePlace (s .centre)) ≡ either (fits m) (λ _. Outcome.replies isIssued issued m) (λ _. Outcome.refused 15)
-  issue-is = ap (beginAt s o (m .«op_id») m) e
+answer-any : (s : Session) (o : Operation) (z : ℤ) → respondAt s o z (placeOf z (o .start) (s .centre)) ≡ respondAt s (endedBy (o .start) (o .cmp)) z (placeOf z (o .start) (s .centre))
+answer-any s o z = go (placeOf z (o .start) (s .centre))
+  where
+    go : (p : Option ℕ) → respondAt s o z p ≡ respondAt s (endedBy (o .start) (o .cmp)) z p
+    go none = refl
+    go (some i) = refl
+
+-- all that an open session knows
+pub record Known : Type 0 where
+  pub ping : Starts 9 10
+  pub det : Starts 3 4
+  pub ulData : Starts 7 19
+  pub pingCmp : Completes 11 9
+  pub detCmp : Completes 14 3
+  pub ulDataCmp : Completes 20 7
+  pub pingRsp : Answers 10 9 11
+  pub statusRsp : Answers 2 12 13
+  pub attPrpRsp : Answers 15 5 16
+  pub detPrpRsp : Answers 17 6 18
+
+pub known : Known
+unfolding inOpen operationBy stationStarts centreStarts commandOf commands placeIn
+known = record {
+  ping = record { is = λ s g z. start-any s g _ z };
+  det = record { is = λ s g z. start-any s g _ z };
+  ulData = record { is = λ s g z. start-any s g _ z };
+  pingCmp = record { is = λ s g z. refl };
+  detCmp = record { is = λ s g z. refl };
+  ulDataCmp = record { is = λ s g z. refl };
+  pingRsp = record { is = λ s g z. answer-any s _ z };
+  statusRsp = record { is = λ s g z. answer-any s _ z };
+  attPrpRsp = record { is = λ s g z. answer-any s _ z };
+  detPrpRsp = record { is = λ s g z. answer-any s _ z };
+}
+
+module _ (d room : List ℕ) (sign command n : ℕ) (z : ℤ) (f : SFits w64 z) (e : command ≡ n) where
+  by-command : (g : ℤ → Outcome) → ((y : ℤ) → inOpen (sessionAt d) sign n y ≡ g y) → calledBy d room (g (toZ w64 (ofZ w64 z))) ≡ calledBy d room (inOpen (sessionAt d) sign command z)
+  by-command g k = ap (λ (y : ℤ). calledBy d room (g y)) (toZ-ofZ w64 z f) ∙ ap (calledBy d room) (sym (ap (λ (c : ℕ). inOpen (sessionAt d) sign c z) e ∙ k z))
+
+  pub open-start : (a : ℕ) (c : Called) → c ≡ calledBy d room (starts (sessionAt d) sign (startedBy n a) (toZ w64 (ofZ w64 z))) → Starts n a → c ≡ calledBy d room (inOpen (sessionAt d) sign command z)
+  open-start a c p k = p ∙ by-command (starts (sessionAt d) sign (startedBy n a)) (k .is (sessionAt d) sign)
+
+  pub open-complete : (k : ℕ) (r : Answer) (i : List ℕ) → Completes n k
+      → ((any : List ℕ) → _≡_ {A = Called} (called r i any) (calledBy d any (completeAt (sessionAt d) (placeOf (toZ w64 (ofZ w64 z)) k (sessionAt d .station)))))
+      → _≡_ {A = Called} (called r i room) (calledBy d room (inOpen (sessionAt d) sign command z))
+  open-complete k r i h p = p room ∙ by-command (λ y. completeAt (sessionAt d) (placeOf y k (sessionAt d .station))) (h .is (sessionAt d) sign)
+
+  pub open-answer : (k a : ℕ) (c : Called) → c ≡ calledBy d room (respondAt (sessionAt d) (endedBy k a) (toZ w64 (ofZ w64 z)) (placeOf (toZ w64 (ofZ w64 z)) k (sessionAt d .centre))) → Answers n k a
+      → c ≡ calledBy d room (inOpen (sessionAt d) sign command z)
+  open-answer k a c p h = p ∙ by-command (λ y. respondAt (sessionAt d) (endedBy k a) y (placeOf y k (sessionAt d .centre))) (h .is (sessionAt d) sign)
+
+pub open-none : (d room : List ℕ) (sign c : ℕ) (z : ℤ) (r : Answer)
+    → (c ≡ 9 → ⊥) → (c ≡ 3 → ⊥) → (c ≡ 7 → ⊥) → (c ≡ 11 → ⊥) → (c ≡ 14 → ⊥) → (c ≡ 20 → ⊥) → (c ≡ 10 → ⊥) → (c ≡ 2 → ⊥) → (c ≡ 15 → ⊥) → (c ≡ 17 → ⊥)
+    → r ≡ refusedAs 17 → _≡_ {A = Called} (called r d room) (calledBy d room (inOpen (sessionAt d) sign c z))
+unfolding inOpen operationBy stationStarts centreStarts commandOf commands placeIn
+open-none d room sign c z r a b e f g h i j k l p =
+    refused-call d room (inOpen (sessionAt d) sign c z) r 17 p
+    (simp (ne-eqb 9 c (λ q. a (sym q)), ne-eqb 3 c (λ q. b (sym q)), ne-eqb 7 c (λ q. e (sym q)), ne-eqb 11 c (λ q. f (sym q)), ne-eqb 14 c (λ q. g (sym q)), ne-eqb 20 c (λ q. h (sym q)), ne-eqb 10 c (λ q. i (sym q)), ne-eqb 2 c (λ q. j (sym q)), ne-eqb 15 c (λ q. k (sym q)), ne-eqb 17 c (λ q. l (sym q))))
+
+pub ruleset operations = (start-late, start-timely, open-start, open-complete, open-answer, open-none)

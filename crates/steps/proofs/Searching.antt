@@ -1,7 +1,7 @@
 -- The code's search of the places: it goes on from each place as the definition does from there; and the machine's equality of signed numbers.
 -- Assumes nothing.
 use mathlib.Core.Path.{_≡_, refl, sym, ap, _∙_}
-use mathlib.Core.Bool.{Bool, true, false, not, _&&_, and-assoc}
+use mathlib.Core.Bool.{Bool, true, false, not, _&&_}
 use mathlib.Core.List.{List}
 use mathlib.Core.Option.{some, none}
 use Prim.Native.Nat.{ℕ, suc, _+_, _-_, _*_, _≤_, _<_, _^_}
@@ -19,6 +19,7 @@ use Rattle.session.specs.Session.{Entry}
 use Rattle.session.specs.Place.{sameId, isFree, matches, entry, noEntry, firstFrom, freePlace, placeOf, placeNumber}
 use Rattle.session.specs.Image.{idAt, entriesAt}
 use Rattle.session.proofs.Image.{entries-long}
+use Rattle.steps.proofs.Tests.{and-assoc}
 use Rattle.steps.proofs.Lying.{entry-at}
 use Rattle.steps.proofs.Knowing.{kept}
 

@@ -7,13 +7,10 @@ use Prim.Native.Nat.{ℕ}
 use lib.Dec.{eqb, leb}
 use lib.ListN.{length}
 use borrow.Author.Tests.{eqb-true}
-use Rattle.octets.specs.Bytes.{IsBytes}
+use Rattle.octets.specs.Bytes.{IsBytes, putAt}
 use Rattle.octets.specs.Choice.{either}
-use Rattle.message.specs.declared.Message.{Message}
-use Rattle.saying.specs.Fits.{fits}
-use Rattle.saying.specs.Written.{frameFor}
-use Rattle.writing.specs.declared.Written.the-variants.{Whole, Refused}
-use Rattle.writing.specs.Write.{writtenOf}
+use Rattle.record.specs.declared.Message.{Message}
+use Rattle.record.specs.Written.{frameFor}
 use Rattle.session.specs.Session.{Session}
 use Rattle.session.specs.Arrive.{Outcome, arrives}
 use Rattle.session.specs.Centre.{centreBegins, lost}
@@ -23,7 +20,7 @@ use Rattle.session.proofs.Image.{tested}
 use Rattle.session.proofs.Back.{Held, session-is, session-back}
 use Rattle.session.proofs.Holding.{Holds, held-in, arrival-held, begin-held, loss-held}
 use Rattle.steps.specs.declared.Answer.{Answer}
-use Rattle.steps.specs.Called.{Called, refusedAs, doneAs, refuses, sends, calledBy, hostOf, arriveOn, beginOn, lostAnswer, lostSession}
+use Rattle.steps.specs.Called.{Called, called, refusedAs, doneAs, refuses, calledBy, hostOf, arriveOn, beginOn, lostAnswer, lostSession}
 
 -- after a call: the session t that the rule made of s; where the call was refused, by the rule or with 20, s itself
 abbrev pub unlessRefused : Answer → Session → Session → Session
@@ -56,42 +53,40 @@ module _ (d : List ℕ) (bytes : IsBytes d) where
 
   module _ (room : List ℕ) where
     -- a step whose message is written, or has no room
-    sent-seen : (w : ℕ) (t : Session) (m : Message) → isSession d ≡ true → Held t → (a b : Bool)
-        → ShowsOf d (Outcome.replies w t m) (sends w d t m room (either a (λ _. either b (λ _. Whole (length (frameFor m))) (λ _. Refused 20)) (λ _. Refused 15)))
-    sent-seen w t m e h true true = image-seen e t h
-    sent-seen w t m e h true false = (refl, refl)
-    sent-seen w t m e h false b = (refl, refl)
+    sent-seen : (w : ℕ) (t : Session) (m : Message) (l f : List ℕ) → isSession d ≡ true → Held t → (b : Bool)
+        → ShowsOf d (Outcome.replies w t m l) (either b (λ _. called (doneAs w (length f)) (sessionImage t) (putAt room 0 f)) (λ _. refuses 20 d room))
+    sent-seen w t m l f e h true = image-seen e t h
+    sent-seen w t m l f e h false = (refl, refl)
 
     outcome-seen : (o : Outcome) → isSession d ≡ true → Holds o → ShowsOf d o (calledBy d room o)
-    unfolding writtenOf
     outcome-seen (Outcome.refused n) e h = (refl, same-session (eqb n 0) (sessionAt d))
     outcome-seen (Outcome.silent w t) e h = image-seen e t h
-    outcome-seen (Outcome.replies w t m) e h = sent-seen w t m e h (fits m) (leb (length (frameFor m)) (length room))
+    outcome-seen (Outcome.replies w t m l) e h = sent-seen w t m l (frameFor m l) e h (leb (length (frameFor m l)) (length room))
 
-    module _ (m : Message) where
-      pub arrival-seen : (e : ℕ) (u g : List ℕ) → let c = arriveOn d m e u g room in Seen d (Event.arrival m (hostOf e u g)) (c .answer) (c .session)
+    module _ (m : Message) (lent : List ℕ) where
+      pub arrival-seen : (e : ℕ) (u g : List ℕ) → let c = arriveOn d m lent e u g room in Seen d (Event.arrival m lent (hostOf e u g)) (c .answer) (c .session)
       unfolding arriveOn
       arrival-seen e u g = go (isSession d) refl (eqb (length u) 16) refl (eqb (length g) 4)
         where
           rule : Outcome
-          rule = arrives (sessionAt d) m (hostOf e u g)
+          rule = arrives (sessionAt d) m lent (hostOf e u g)
 
           go : (a : Bool) → isSession d ≡ a → (b : Bool) → eqb (length u) 16 ≡ b → (c : Bool)
               → ShowsOf d rule (either a (λ _. calledBy d room (either (b && c) (λ _. rule) (λ _. Outcome.refused 15))) (λ _. refuses 15 d room))
-          go true p true q true = outcome-seen rule p (arrival-held (sessionAt d) (held p) m (hostOf e u g) (eqb-true (length u) 16 q))
+          go true p true q true = outcome-seen rule p (arrival-held (sessionAt d) (held p) m lent (hostOf e u g) (eqb-true (length u) 16 q))
           go true p true q false = (refl, refl)
           go true p false q c = (refl, refl)
           go false p b q c = (refl, refl)
 
-      pub begin-seen : let c = beginOn d m room in Seen d (Event.beginning m) (c .answer) (c .session)
+      pub begin-seen : let c = beginOn d m lent room in Seen d (Event.beginning m lent) (c .answer) (c .session)
       unfolding beginOn
       begin-seen = go (isSession d) refl
         where
           rule : Outcome
-          rule = centreBegins (sessionAt d) m
+          rule = centreBegins (sessionAt d) m lent
 
           go : (a : Bool) → isSession d ≡ a → ShowsOf d rule (either a (λ _. calledBy d room rule) (λ _. refuses 15 d room))
-          go true p = outcome-seen rule p (begin-held (sessionAt d) (held p) m)
+          go true p = outcome-seen rule p (begin-held (sessionAt d) (held p) m lent)
           go false p = (refl, refl)
 
   pub loss-seen : Seen d Event.loss (lostAnswer d) (lostSession d)

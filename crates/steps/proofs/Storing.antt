@@ -1,7 +1,7 @@
 -- What the code stores is the rule's session: the bytes before are the image of the session in them, and each store is one part of it changed.
 -- Each law in the shape of a need of the code. Assumes nothing.
 use mathlib.Core.Path.{_≡_, refl, sym, ap, ap₂, _∙_}
-use mathlib.Core.Bool.{true, false}
+use mathlib.Core.Bool.{true}
 use mathlib.Core.List.{List, [], _∷_, _++_, append-assoc}
 use Prim.Native.Nat.{ℕ, _+_, _*_, _≤_, _<_}
 use native.Mathlib.Omega.{arith}
@@ -15,23 +15,16 @@ use Rattle.octets.specs.Bytes.{littleBytes, putAt, putNumber}
 use Rattle.octets.specs.Signed.{bitsOf}
 use Rattle.octets.proofs.Digits.{length-little}
 use Rattle.octets.proofs.Writing.{length-put}
-use Rattle.forms.specs.Put.{Put, put, putParts}
-use Rattle.forms.proofs.Putting.{part-in, room-kept}
 use Rattle.session.specs.Session.{Session}
 use Rattle.session.specs.Session.State.{Waiting, Connecting, Open}
-use Rattle.session.specs.Place.{entry, taken, freed, allFree}
+use Rattle.session.specs.Place.{entry, taken, freed}
 use Rattle.session.specs.Arrive.{withStation, withCentre, resumed, opened, begunWith}
 use Rattle.session.specs.Centre.{stored}
-use Rattle.session.specs.Image.{wordsOf, bytesOf, wordBytes, sessionImage, sessionAt}
-use Rattle.session.proofs.Image.{Tested, tested, image-back, Sized, sized, zeros-again, part-then}
+use Rattle.session.specs.Image.{wordBytes, sessionImage, sessionAt}
+use Rattle.session.proofs.Image.{tested, image-back, Sized, sized, zeros-again, part-then}
 use Rattle.session.proofs.Stored.{put-part, set-right, highest-stored, lowest-stored, station-stored, centre-stored, state-stored, mark-stored}
 use Rattle.steps.specs.Lies.{Lies}
 use Rattle.steps.proofs.Knowing.{kept}
-
--- a run of bytes that has room
-run-put : (d e v : List ℕ) (at next : ℕ) → put e next ≡ putParts (v ∷ []) (put d at) → at + length v ≤ length d → e ≡ putAt d at v
-unfolding putParts
-run-put d e v at next f h = ap (λ (o : Put). o .room) (f ∙ part-in d at v h)
 
 -- a store after a store keeps the length
 pub same-long : (d a f : List ℕ) (k v : ℕ) → length a ≡ length d → length f ≡ length (set a k v) → length f ≡ length d
@@ -50,6 +43,9 @@ module _ (d : List ℕ) (l : Lies d) where
   -- a byte behind the words, after a store that keeps the length
   pub in-bytes : (e : List ℕ) → length e ≡ length d → (k i : ℕ) → i < 16 → k ≤ 296 → k + i < length e
   in-bytes e n k i h m = omega (arith, long)
+
+  pub session-in : (k : ℕ) → k < 368 → k < length d
+  session-in k h = omega (arith, long)
 
   lists : Sized s
   lists = sized d long
@@ -106,6 +102,41 @@ module _ (d : List ℕ) (l : Lies d) where
   now-stored =
       ap (λ (f : List ℕ). set (set f 344 0) 345 1) back ∙ ap (λ (f : List ℕ). set f 345 1) (state-stored s lists Waiting)
       ∙ mark-stored _ (record { station = lists .station; centre = lists .centre; bsUuid = lists .bsUuid; scUuid = lists .scUuid }) true
+
+  -- the room for a new session's parts, one behind the other
+  module _ (eui : ℕ) (a : List ℕ) (A : a ≡ putNumber d 0 8 (littleBytes 8 eui)) where
+    a-long : length a ≡ 368
+    a-long = ap length A ∙ length-put d 0 (littleBytes 8 eui) ∙ long
+
+    pub clear-room : 312 ≤ length a
+    clear-room = omega (arith, a-long)
+
+    module _ (b : List ℕ) (B : b ≡ putAt a 8 (replicate 304 0)) where
+      b-long : length b ≡ 368
+      b-long = ap length B ∙ length-put a 8 (replicate 304 0) ∙ a-long
+
+      pub station-room : 328 ≤ length b
+      station-room = omega (arith, b-long)
+
+      module _ (bs e : List ℕ) (E : e ≡ putAt b 312 bs) where
+        e-long : length e ≡ 368
+        e-long = ap length E ∙ length-put b 312 bs ∙ b-long
+
+        pub own-room : 344 ≤ length e
+        own-room = omega (arith, e-long)
+
+        module _ (sc f : List ℕ) (F : f ≡ putAt e 328 sc) where
+          f-long : length f ≡ 368
+          f-long = ap length F ∙ length-put e 328 sc ∙ e-long
+
+          pub state-in : 344 < length f
+          state-in = omega (arith, f-long)
+
+          pub mark-in : 345 < length (set f 344 1)
+          mark-in = omega (arith, f-long, length-set f 344 1)
+
+          pub same-room : length (set (set f 344 1) 345 0) ≡ length d
+          same-room = length-set (set f 344 1) 345 0 ∙ length-set f 344 1 ∙ f-long ∙ sym long
 
   -- a new session: its EUI, cleared IDs and kinds, two UUIDs, connecting and not stored
   module _ (eui : ℕ) (bs sc : List ℕ) (p : length bs ≡ 16) (q : length sc ≡ 16) where
@@ -169,32 +200,11 @@ module _ (d : List ℕ) (l : Lies d) where
     anew = ap (λ (f : List ℕ). set (set f 344 1) 345 0) all-put ∙ last-set ∙ begun-is
 
     -- the same after the calls that store it, each of which says what it leaves
-    module _ (a b e f : List ℕ) (x y z : ℕ) (A : a ≡ putNumber d 0 8 (littleBytes 8 eui)) (B : put b x ≡ putParts (zeros ∷ []) (put a 8))
-        (E : put e y ≡ putParts (bs ∷ []) (put b 312)) (F : put f z ≡ putParts (sc ∷ []) (put e 328)) where
-      a-long : length a ≡ 368
-      a-long = ap length A ∙ length-put d 0 (littleBytes 8 eui) ∙ long
+    pub begun-anew : (a b e f : List ℕ) → a ≡ putNumber d 0 8 (littleBytes 8 eui) → b ≡ putAt a 8 zeros → e ≡ putAt b 312 bs → f ≡ putAt e 328 sc
+        → set (set f 344 1) 345 0 ≡ sessionImage (begunWith eui bs sc)
+    begun-anew a b e f A B E F =
+        ap (λ (l : List ℕ). set (set l 344 1) 345 0)
+        (F ∙ ap (λ (l : List ℕ). putAt l 328 sc) (E ∙ ap (λ (l : List ℕ). putAt l 312 bs) (B ∙ ap (λ (l : List ℕ). putAt l 8 zeros) A)))
+        ∙ anew
 
-      b-long : length b ≡ 368
-      b-long = room-kept (zeros ∷ []) a b 8 x B ∙ a-long
-
-      e-long : length e ≡ 368
-      e-long = room-kept (bs ∷ []) b e 312 y E ∙ b-long
-
-      f-long : length f ≡ 368
-      f-long = room-kept (sc ∷ []) e f 328 z F ∙ e-long
-
-      -- the last two bytes have their places
-      pub state-in : 344 < length f
-      state-in = omega (arith, f-long)
-
-      pub mark-in : 345 < length (set f 344 1)
-      mark-in = omega (arith, f-long, length-set f 344 1)
-
-      pub begun-anew : set (set f 344 1) 345 0 ≡ sessionImage (begunWith eui bs sc)
-      begun-anew =
-          ap (λ (l : List ℕ). set (set l 344 1) 345 0)
-          (run-put e f sc 328 z F (omega (arith, e-long, q))
-          ∙ ap (λ (l : List ℕ). putAt l 328 sc) (run-put b e bs 312 y E (omega (arith, b-long, p))
-          ∙ ap (λ (l : List ℕ). putAt l 312 bs) (run-put a b zeros 8 x B (omega (arith, a-long, length-replicate {A = ℕ} 304 0))
-          ∙ ap (λ (l : List ℕ). putAt l 8 zeros) A)))
-          ∙ anew
+pub ruleset anews = (clear-room, station-room, own-room, state-in, mark-in, same-room, begun-anew)

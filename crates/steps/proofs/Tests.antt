@@ -1,8 +1,12 @@
--- What tests say that are negated or joined. Assumes nothing.
-use mathlib.Core.Path.{_≡_, refl, sym}
+-- What tests say that are negated or joined, and what the judgement of a record says. Assumes nothing.
+use mathlib.Core.Path.{_≡_, refl, sym, _∙_}
 use mathlib.Core.Bool.{Bool, true, false, not, _&&_, _||_}
-use mathlib.Core.Logic.{_⊎_, inl, inr}
+use mathlib.Core.List.{List}
+use Prim.Native.Nat.{ℕ}
+use borrow.Author.Tests.{eq-eqb, ne-eqb}
 use Rattle.octets.proofs.Ranges.{true-false}
+use Rattle.record.specs.declared.Message.{Message}
+use Rattle.record.specs.Fits.{faultIn, fits}
 
 pub unset : (b : Bool) → not b ≡ true → b ≡ false
 unset true e = sym e
@@ -11,6 +15,10 @@ unset false e = refl
 pub set-is : (b : Bool) → not b ≡ false → b ≡ true
 set-is true e = refl
 set-is false e = sym e
+
+pub both : (a b : Bool) → a && b ≡ true → (a ≡ true) × (b ≡ true)
+both true b e = (refl, e)
+both false b e = true-false (sym e)
 
 -- neither is false, or one is
 pub both-set : (a b : Bool) → not a || not b ≡ false → (a ≡ true) × (b ≡ true)
@@ -23,20 +31,18 @@ not-both true true e = sym e
 not-both true false e = refl
 not-both false b e = refl
 
--- none of four, or one
-abbrev pub noneOf : Bool → Bool → Bool → Bool → Bool
-noneOf w x y z = ((not w && not x) && not y) && not z
+pub and-assoc : (a b c : Bool) → (a && b) && c ≡ a && (b && c)
+and-assoc true b c = refl
+and-assoc false b c = refl
 
-pub none-of : (w x y z : Bool) → noneOf w x y z ≡ true → (w ≡ false) × (x ≡ false) × (y ≡ false) × (z ≡ false)
-none-of false false false false e = (refl, refl, refl, refl)
-none-of false false false true e = true-false (sym e)
-none-of false false true z e = true-false (sym e)
-none-of false true y z e = true-false (sym e)
-none-of true x y z e = true-false (sym e)
+pub and-true : (b : Bool) → b && true ≡ b
+and-true true = refl
+and-true false = refl
 
-pub one-of : (w x y z : Bool) → noneOf w x y z ≡ false → (w ≡ true) ⊎ ((x ≡ true) ⊎ ((y ≡ true) ⊎ (z ≡ true)))
-one-of true x y z e = inl refl
-one-of false true y z e = inr (inl refl)
-one-of false false true z e = inr (inr (inl refl))
-one-of false false false true e = inr (inr (inr refl))
-one-of false false false false e = true-false e
+-- the first field at fault, as the code has it
+module _ (m : Message) (d : List ℕ) (f : ℕ) (e : f ≡ faultIn m d) where
+  pub fault-none : f ≡ 0 → true ≡ fits m d
+  fault-none h = sym (eq-eqb (faultIn m d) 0 (sym e ∙ h))
+
+  pub fault-some : (f ≡ 0 → ⊥) → fits m d ≡ false
+  fault-some h = ne-eqb (faultIn m d) 0 (λ p. h (e ∙ p))

@@ -1,14 +1,13 @@
 -- Document 01, "Session": what a call answers, and what stands in the session's bytes and in the room afterwards.
 use Prim.Native.Nat.{ℕ}
-use mathlib.Core.Bool.{Bool, _&&_}
+use mathlib.Core.Bool.{_&&_}
 use mathlib.Core.List.{List}
-use lib.Dec.{eqb}
+use lib.Dec.{eqb, leb}
 use lib.ListN.{length}
 use Rattle.octets.specs.Choice.{either}
-use Rattle.message.specs.declared.Message.{Message}
-use Rattle.writing.specs.declared.Written.{Written}
-use Rattle.writing.specs.declared.Written.the-variants.{Whole, Refused}
-use Rattle.writing.specs.Write.{writtenOf, roomOf}
+use Rattle.octets.specs.Bytes.{putAt}
+use Rattle.record.specs.declared.Message.{Message}
+use Rattle.record.specs.Written.{frameFor}
 use Rattle.session.specs.Session.{Session, Host}
 use Rattle.session.specs.Arrive.{Outcome, arrives}
 use Rattle.session.specs.Centre.{centreBegins, lost}
@@ -36,16 +35,16 @@ doneAs w n = record { refusal = 0; happened = w; length = n }
 abbrev pub refuses : ℕ → List ℕ → List ℕ → Called
 refuses n d room = called (refusedAs n) d room
 
--- the step is taken if its message is written; a step that can't fit its reply gives 20 last and takes no step
-abbrev pub sends : ℕ → List ℕ → Session → Message → List ℕ → Written → Called
-sends w d t m room (Whole n) = called (doneAs w n) (sessionImage t) (roomOf m room)
-sends w d t m room (Refused k) = refuses k d room
+-- the step is taken if its frame has place; else 20 last and no step
+abbrev pub sends : ℕ → List ℕ → Session → List ℕ → List ℕ → Called
+sends w d t frame room =
+    either (leb (length frame) (length room)) (λ _. called (doneAs w (length frame)) (sessionImage t) (putAt room 0 frame)) (λ _. refuses 20 d room)
 
 -- the rule's step, seen through the bytes
 abbrev pub calledBy : List ℕ → List ℕ → Outcome → Called
 calledBy d room (Outcome.refused n) = refuses n d room
 calledBy d room (Outcome.silent w t) = called (doneAs w 0) (sessionImage t) room
-calledBy d room (Outcome.replies w t m) = sends w d t m room (writtenOf m room)
+calledBy d room (Outcome.replies w t m e) = sends w d t (frameFor m e) room
 
 -- bytes that are no session's, and host bytes of a wrong length, are 15 before all others
 abbrev pub onSession : List ℕ → List ℕ → (Session → Outcome) → Called
@@ -54,12 +53,13 @@ onSession d room step = either (isSession d) (λ _. calledBy d room (step (sessi
 abbrev pub hostOf : ℕ → List ℕ → List ℕ → Host
 hostOf e u g = record { scEui = e; uuid = u; sign = g }
 
-unfoldable pub arriveOn : List ℕ → Message → ℕ → List ℕ → List ℕ → List ℕ → Called
-arriveOn d m e u g room =
-    onSession d room (λ s. either (eqb (length u) 16 && eqb (length g) 4) (λ _. arrives s m (hostOf e u g)) (λ _. Outcome.refused 15))
+-- a record m with the bytes that are lent beside it
+unfoldable pub arriveOn : List ℕ → Message → List ℕ → ℕ → List ℕ → List ℕ → List ℕ → Called
+arriveOn d m lent e u g room =
+    onSession d room (λ s. either (eqb (length u) 16 && eqb (length g) 4) (λ _. arrives s m lent (hostOf e u g)) (λ _. Outcome.refused 15))
 
-unfoldable pub beginOn : List ℕ → Message → List ℕ → Called
-beginOn d m room = onSession d room (λ s. centreBegins s m)
+unfoldable pub beginOn : List ℕ → Message → List ℕ → List ℕ → Called
+beginOn d m lent room = onSession d room (λ s. centreBegins s m lent)
 
 -- a lost connection
 abbrev pub lostAnswer : List ℕ → Answer

@@ -1,3 +1,2 @@
 pub mod Lies
 pub mod Called
-pub mod Reply

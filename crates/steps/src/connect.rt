@@ -1,7 +1,7 @@
 // Waiting and connecting: con, and the conCmp that opens.
 use crate::Answer;
-use crate::bytes::bytes16;
-use crate::bytes::same16;
+use crate::bytes::same_sixteen;
+use crate::bytes::sixteen_at;
 use crate::done;
 use crate::lies::BS_UUID;
 use crate::lies::CONNECTING;
@@ -12,54 +12,77 @@ use crate::lies::STORED;
 use crate::lies::highest_of;
 use crate::lies::lowest_of;
 use crate::refused;
+use crate::reply::con_rsp;
 use crate::stored::begin_anew;
 use message::MaybeId;
-use message::Message;
 use octets::little_at;
-use writing::Written;
+use record::Body;
+use record::Con;
+use record::Message;
+use writer::Written;
+use writer::put;
 ghost use mathlib.Core.Path.{_≡_};
 ghost use mathlib.Core.Bool.{true, false, not, _||_};
-ghost use mathlib.Core.List.{List};
+ghost use mathlib.Core.List.{List, []};
 ghost use Prim.Native.Nat.{ℕ};
 ghost use lib.ListN.{length};
-ghost use Rattle.session.specs.Arrive.{Outcome, below, highestOf, lowestOf, resumes, inWaiting, inConnecting, conRspOf, resumed, begun};
+ghost use Rattle.record.specs.Record.{sixteenOf};
+ghost use Rattle.session.specs.Arrive.{Outcome, below, highestOf, lowestOf, conRspOf, resumes, resumed, begun, takesCon, inWaiting, inConnecting};
 ghost use Rattle.session.specs.Happened.{isBegun, isResumed};
 ghost use Rattle.session.specs.Image.{sessionAt};
 ghost use Rattle.steps.specs.Lies.{Lies};
 ghost use Rattle.steps.specs.Called.{Called, called, calledBy, hostOf};
 
-// Waiting takes only con: 17, 18 (opId must be 0), 16.
+// Waiting takes only con (17).
 pub fn in_waiting(d: &mut [u8], m: Message, sc_eui: u64, uuid: &[u8], room: &mut [u8]) -> Answer
     requires { ⌜ Lies (now d) × (length (now uuid) ≡ 16) ⌝ }
-    ensures { λ r. ⌜ ((g : List ℕ) → _≡_ {A = Called} (called r (now (d .exit)) (now (room .exit)))
-        (calledBy (now (d .entry)) (now (room .entry)) (inWaiting (sessionAt (now (d .entry))) m (hostOf «sc_eui» (now (uuid .entry)) g)))) ⌝ }
+    ensures { λ r. ⌜ _≡_ {A = Called} (called r (now (d .exit)) (now (room .exit)))
+        (calledBy (now (d .entry)) (now (room .entry)) (inWaiting (sessionAt (now (d .entry))) m (hostOf «sc_eui» (now (uuid .entry)) []))) ⌝ }
 {
-    if m.command != 0 {
-        return refused(17);
+    let id = m.op_id;
+    let b = m.body;
+    match b {
+        Body::Con(x) => takes_con(d, id, x, sc_eui, uuid, room),
+        Body::ConRsp(_) => refused(17),
+        Body::StatusRsp(_) => refused(17),
+        Body::Det(_) => refused(17),
+        Body::DetRsp(_) => refused(17),
+        Body::AttPrp(_) => refused(17),
+        Body::DetPrp(_) => refused(17),
+        Body::UlData(_) => refused(17),
+        Body::Bare(_) => refused(17),
     }
-    if m.op_id != 0 {
+}
+
+// A con: 18 (opId must be 0), 16.
+fn takes_con(d: &mut [u8], id: i64, x: Con, sc_eui: u64, uuid: &[u8], room: &mut [u8]) -> Answer
+    requires { ⌜ Lies (now d) × (length (now uuid) ≡ 16) ⌝ }
+    ensures { λ r. ⌜ _≡_ {A = Called} (called r (now (d .exit)) (now (room .exit)))
+        (calledBy (now (d .entry)) (now (room .entry)) (takesCon (sessionAt (now (d .entry))) id x (hostOf «sc_eui» (now (uuid .entry)) []))) ⌝ }
+{
+    if id != 0 {
         return refused(18);
     }
-    if (m.version.major != 1) | (m.version.minor != 0) {
+    if (x.version.major != 1) | (x.version.minor != 0) {
         return refused(16);
     }
-    if resumes(d, m) {
+    if resumes(d, x) {
         return resume(d, sc_eui, room);
     }
-    anew(d, m, sc_eui, uuid, room)
+    anew(d, x, sc_eui, uuid, room)
 }
 
 // It resumes exactly if a session is stored with the same bsEui and snBsUuid, and no ID that it does not know.
-fn resumes(d: &[u8], m: Message) -> bool
+fn resumes(d: &[u8], x: Con) -> bool
     requires { ⌜ Lies (now d) ⌝ }
-    ensures { λ r. ⌜ r ≡ resumes (sessionAt (now (d .entry))) m ⌝ }
+    ensures { λ r. ⌜ r ≡ resumes (sessionAt (now (d .entry))) x ⌝ }
 {
-    let uuid = m.sn_bs_uuid;
-    let station = m.sn_bs_op_id;
-    let centre = m.sn_sc_op_id;
+    let uuid = x.sn_bs_uuid;
+    let station = x.sn_bs_op_id;
+    let centre = x.sn_sc_op_id;
     (d[STORED] != 0)
-        & (little_at(d, 0, 8) == m.bs_eui)
-        & same16(d, BS_UUID, uuid)
+        & (little_at(d, 0, 8) == x.bs_eui)
+        & same_sixteen(d, BS_UUID, uuid)
         & station_known(d, station)
         & centre_known(d, centre)
 }
@@ -82,11 +105,12 @@ fn centre_known(d: &[u8], id: MaybeId) -> bool
 
 fn resume(d: &mut [u8], sc_eui: u64, room: &mut [u8]) -> Answer
     requires { ⌜ Lies (now d) ⌝ }
-    ensures { λ r. ⌜ ((u g : List ℕ) → _≡_ {A = Called} (called r (now (d .exit)) (now (room .exit)))
-        (calledBy (now (d .entry)) (now (room .entry)) (Outcome.replies isResumed (resumed (sessionAt (now (d .entry)))) (conRspOf (hostOf «sc_eui» u g) true (sessionAt (now (d .entry)) .snScUuid))))) ⌝ }
+    ensures { λ r. ⌜ _≡_ {A = Called} (called r (now (d .exit)) (now (room .exit)))
+        (calledBy (now (d .entry)) (now (room .entry)) (Outcome.replies isResumed (resumed (sessionAt (now (d .entry)))) (conRspOf «sc_eui» true (sixteenOf (sessionAt (now (d .entry)) .snScUuid))) [])) ⌝ }
 {
-    let uuid = bytes16(d, SC_UUID);
-    let w = writing::write_con_rsp(sc_eui, true, uuid, room);
+    let none = [0u8; 0];
+    let own = sixteen_at(d, SC_UUID);
+    let w = put(con_rsp(sc_eui, true, own), &none, room);
     match w {
         Written::Refused(k) => refused(k),
         Written::Whole(n) => {
@@ -96,18 +120,19 @@ fn resume(d: &mut [u8], sc_eui: u64, room: &mut [u8]) -> Answer
     }
 }
 
-fn anew(d: &mut [u8], m: Message, sc_eui: u64, uuid: &[u8], room: &mut [u8]) -> Answer
+fn anew(d: &mut [u8], x: Con, sc_eui: u64, uuid: &[u8], room: &mut [u8]) -> Answer
     requires { ⌜ Lies (now d) × (length (now uuid) ≡ 16) ⌝ }
-    ensures { λ r. ⌜ ((g : List ℕ) → _≡_ {A = Called} (called r (now (d .exit)) (now (room .exit)))
-        (calledBy (now (d .entry)) (now (room .entry)) (Outcome.replies isBegun (begun (hostOf «sc_eui» (now (uuid .entry)) g) m) (conRspOf (hostOf «sc_eui» (now (uuid .entry)) g) false (now (uuid .entry)))))) ⌝ }
+    ensures { λ r. ⌜ _≡_ {A = Called} (called r (now (d .exit)) (now (room .exit)))
+        (calledBy (now (d .entry)) (now (room .entry)) (Outcome.replies isBegun (begun (hostOf «sc_eui» (now (uuid .entry)) []) x) (conRspOf «sc_eui» false (sixteenOf (now (uuid .entry)))) [])) ⌝ }
 {
-    let own = bytes16(uuid, 0);
-    let w = writing::write_con_rsp(sc_eui, false, own, room);
+    let none = [0u8; 0];
+    let own = sixteen_at(uuid, 0);
+    let w = put(con_rsp(sc_eui, false, own), &none, room);
     match w {
         Written::Refused(k) => refused(k),
         Written::Whole(n) => {
-            let bs_uuid = m.sn_bs_uuid;
-            begin_anew(d, m.bs_eui, &bs_uuid, uuid);
+            let station = x.sn_bs_uuid;
+            begin_anew(d, x.bs_eui, station, own);
             done(1, n)
         }
     }
@@ -116,8 +141,7 @@ fn anew(d: &mut [u8], m: Message, sc_eui: u64, uuid: &[u8], room: &mut [u8]) -> 
 // conCmp with ID 0 opens; all else is 17.
 pub fn in_connecting(d: &mut [u8], command: u8, id: i64) -> Answer
     requires { ⌜ Lies (now d) ⌝ }
-    ensures { λ r. ⌜ ((m : Message) (room : List ℕ) → m .command ≡ command → m .«op_id» ≡ id → _≡_ {A = Called} (called r (now (d .exit)) room)
-        (calledBy (now (d .entry)) room (inConnecting (sessionAt (now (d .entry))) m))) ⌝ }
+    ensures { λ r. ⌜ ((room : List ℕ) → _≡_ {A = Called} (called r (now (d .exit)) room) (calledBy (now (d .entry)) room (inConnecting (sessionAt (now (d .entry))) command id))) ⌝ }
 {
     if (command == 8) & (id == 0) {
         d[STATE] = OPEN;

@@ -6,14 +6,18 @@ mod issue;
 mod lies;
 mod operate;
 mod places;
+mod reply;
 mod stored;
 
+use bytes::four_of;
+use faults::fault;
 use lies::OPEN;
 use lies::STATE;
 use lies::STORED;
 use lies::WAITING;
 use lies::is_session;
-use message::Message;
+use record::Message;
+use record::command_in;
 ghost use mathlib.Core.Path.{_≡_};
 ghost use lib.ListN.{length};
 ghost use Rattle.session.specs.Arrive.{inState};
@@ -48,17 +52,18 @@ fn done(happened: u8, length: usize) -> Answer
     }
 }
 
-// A record arrives, with what the host lends for the reply: its scEui, a new UUID of 16 bytes, a sign of 4. 15, then 17, 18, 19 (waiting: 17, 18,
+// A record arrives with the bytes lent beside it, and with what the host lends for the reply: its scEui, a new UUID of 16 bytes, a sign of 4. 15, then 17, 18, 19 (waiting: 17, 18,
 // 16), 20 last. A refused step changes neither the session nor the room.
 pub fn arrive(
     d: &mut [u8],
     m: Message,
+    lent: &[u8],
     sc_eui: u64,
     uuid: &[u8],
     sign: &[u8],
     room: &mut [u8],
 ) -> Answer
-    ensures { λ r. ⌜ _≡_ {A = Called} (called r (now (d .exit)) (now (room .exit))) (arriveOn (now (d .entry)) m «sc_eui» (now (uuid .entry)) (now (sign .entry)) (now (room .entry))) ⌝ }
+    ensures { λ r. ⌜ _≡_ {A = Called} (called r (now (d .exit)) (now (room .exit))) (arriveOn (now (d .entry)) m (now (lent .entry)) «sc_eui» (now (uuid .entry)) (now (sign .entry)) (now (room .entry))) ⌝ }
 {
     if !is_session(d) {
         return refused(15);
@@ -66,7 +71,7 @@ pub fn arrive(
     if (uuid.len() != 16) | (sign.len() != 4) {
         return refused(15);
     }
-    if !fitting::fits(m) {
+    if fault(m, lent) != 0 {
         return refused(15);
     }
     in_state(d, m, sc_eui, uuid, sign, room)
@@ -88,15 +93,18 @@ fn in_state(
     if state == WAITING {
         return connect::in_waiting(d, m, sc_eui, uuid, room);
     }
+    let id = m.op_id;
+    let b = m.body;
+    let command = command_in(b);
     if state == OPEN {
-        return operate::in_open(d, m.command, m.op_id, sign, room);
+        return operate::in_open(d, four_of(sign), command, id, room);
     }
-    connect::in_connecting(d, m.command, m.op_id)
+    connect::in_connecting(d, command, id)
 }
 
 // The centre starts an operation with this record, under the ID that it issues; 15 for bytes that are no session's, 17, 18, 19, 15, 20.
-pub fn begin(d: &mut [u8], m: Message, room: &mut [u8]) -> Answer
-    ensures { λ r. ⌜ _≡_ {A = Called} (called r (now (d .exit)) (now (room .exit))) (beginOn (now (d .entry)) m (now (room .entry))) ⌝ }
+pub fn begin(d: &mut [u8], m: Message, lent: &[u8], room: &mut [u8]) -> Answer
+    ensures { λ r. ⌜ _≡_ {A = Called} (called r (now (d .exit)) (now (room .exit))) (beginOn (now (d .entry)) m (now (lent .entry)) (now (room .entry))) ⌝ }
 {
     if !is_session(d) {
         return refused(15);
@@ -104,7 +112,8 @@ pub fn begin(d: &mut [u8], m: Message, room: &mut [u8]) -> Answer
     if d[STATE] != OPEN {
         return refused(17);
     }
-    issue::begins(d, m, room)
+    let b = m.body;
+    issue::begins(d, b, lent, room)
 }
 
 // The connection is lost: a session that was connecting or open is stored and waits; 15.

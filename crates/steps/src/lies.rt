@@ -45,17 +45,16 @@ pub fn is_session(d: &[u8]) -> bool
     if d.len() != SIZE {
         return false;
     }
-    (d[STATE] < 3) & (d[STORED] < 2) & spare_is_zero(d)
+    (d[STATE] < 3) & (d[STORED] < 2) & zeros_from(d, SPARE)
 }
 
-// All bytes are looked at, so that a few instructions do.
-fn spare_is_zero(d: &[u8]) -> bool
-    requires { ⌜ length (now d) ≡ 368 ⌝ }
-    ensures { λ r. ⌜ r ≡ areZeros (drop 346 (now (d .entry))) ⌝ }
+// Whether the bytes from a place on are zeros. No way out of the loop before its end, so that many bytes are tested at once.
+fn zeros_from(d: &[u8], from: usize) -> bool
+    ensures { λ r. ⌜ r ≡ areZeros (drop from (now (d .entry))) ⌝ }
 {
-    let mut i = SPARE;
     let mut ok = true;
-    while i < SIZE {
+    let mut i = from;
+    while i < d.len() {
         ok = ok & (d[i] == 0);
         i += 1;
     }

@@ -1,6 +1,5 @@
 // Open: operations that the station starts and completes, and its answers to those of the centre.
 use crate::Answer;
-use crate::bytes::bytes4;
 use crate::done;
 use crate::lies::CENTRE_IDS;
 use crate::lies::CENTRE_KINDS;
@@ -10,31 +9,33 @@ use crate::lies::highest_of;
 use crate::places::free_place;
 use crate::places::place_of;
 use crate::refused;
+use crate::reply::bare;
+use crate::reply::rsp;
 use crate::stored::free_centre;
 use crate::stored::free_station;
 use crate::stored::take_station;
-use writing::Written;
+use writer::Written;
+use writer::put;
 ghost use mathlib.Core.Path.{_≡_};
+ghost use mathlib.Core.Bool.{true};
 ghost use mathlib.Core.List.{List};
 ghost use Prim.Native.Nat.{ℕ};
-ghost use lib.ListN.{length};
-ghost use Rattle.writing.specs.Write.{IsWritten};
+ghost use Rattle.record.specs.Says.{isBare};
 ghost use Rattle.session.specs.Place.{freePlace, placeOf};
-ghost use Rattle.session.specs.Arrive.{rspOf, whenOpen, starts, startAt, completeAt, respondAt};
+ghost use Rattle.session.specs.Arrive.{inOpen, starts, startAt, completeAt, respondAt};
 ghost use Rattle.session.specs.Image.{sessionAt};
-ghost use Rattle.steps.specs.Lies.{Lies};
-ghost use Rattle.steps.specs.Reply.{IsBare, IsRsp};
-ghost use Rattle.steps.specs.Called.{Called, called, calledBy, hostOf};
+ghost use Rattle.steps.specs.Lies.{Lies, isReply, startedBy, endedBy};
+ghost use Rattle.steps.specs.Called.{Called, called, calledBy};
 
-pub fn in_open(d: &mut [u8], command: u8, id: i64, sign: &[u8], room: &mut [u8]) -> Answer
-    requires { ⌜ Lies (now d) × (length (now sign) ≡ 4) ⌝ }
-    ensures { λ r. ⌜ ((e : ℕ) (u : List ℕ) → _≡_ {A = Called} (called r (now (d .exit)) (now (room .exit)))
-        (calledBy (now (d .entry)) (now (room .entry)) (whenOpen (sessionAt (now (d .entry))) (hostOf e u (now (sign .entry))) command id))) ⌝ }
+pub fn in_open(d: &mut [u8], sign: u32, command: u8, id: i64, room: &mut [u8]) -> Answer
+    requires { ⌜ Lies (now d) ⌝ }
+    ensures { λ r. ⌜ _≡_ {A = Called} (called r (now (d .exit)) (now (room .exit)))
+        (calledBy (now (d .entry)) (now (room .entry)) (inOpen (sessionAt (now (d .entry))) sign command id)) ⌝ }
 {
     match command {
-        9 => starts(d, 9, 10, id, sign, room),
-        3 => starts(d, 3, 4, id, sign, room),
-        7 => starts(d, 7, 19, id, sign, room),
+        9 => starts(d, 9, 10, sign, id, room),
+        3 => starts(d, 3, 4, sign, id, room),
+        7 => starts(d, 7, 19, sign, id, room),
         11 => completes(d, 9, id),
         14 => completes(d, 3, id),
         20 => completes(d, 7, id),
@@ -47,28 +48,29 @@ pub fn in_open(d: &mut [u8], command: u8, id: i64, sign: &[u8], room: &mut [u8])
 }
 
 // A station starts with an ID above the highest known and above 0 (18).
-fn starts(d: &mut [u8], start: u8, answer: u8, id: i64, sign: &[u8], room: &mut [u8]) -> Answer
-    requires { ⌜ Lies (now d) × (length (now sign) ≡ 4) × IsRsp answer ⌝ }
-    ensures { λ r. ⌜ ((e cmp : ℕ) (u : List ℕ) → _≡_ {A = Called} (called r (now (d .exit)) (now (room .exit)))
-        (calledBy (now (d .entry)) (now (room .entry)) (starts (sessionAt (now (d .entry))) (hostOf e u (now (sign .entry))) (record { start = start; rsp = answer; cmp = cmp }) id))) ⌝ }
+fn starts(d: &mut [u8], start: u8, answer: u8, sign: u32, id: i64, room: &mut [u8]) -> Answer
+    requires { ⌜ Lies (now d) × (isReply answer ≡ true) ⌝ }
+    ensures { λ r. ⌜ _≡_ {A = Called} (called r (now (d .exit)) (now (room .exit)))
+        (calledBy (now (d .entry)) (now (room .entry)) (starts (sessionAt (now (d .entry))) sign (startedBy start answer) id)) ⌝ }
 {
     if id <= highest_of(d) {
         return refused(18);
     }
-    start_at(d, start, answer, id, sign, room)
+    start_at(d, start, answer, sign, id, room)
 }
 
 // With a free place (19); the reply is the Rsp.
-fn start_at(d: &mut [u8], start: u8, answer: u8, id: i64, sign: &[u8], room: &mut [u8]) -> Answer
-    requires { ⌜ Lies (now d) × (length (now sign) ≡ 4) × IsRsp answer ⌝ }
-    ensures { λ r. ⌜ ((e cmp : ℕ) (u : List ℕ) → _≡_ {A = Called} (called r (now (d .exit)) (now (room .exit)))
-        (calledBy (now (d .entry)) (now (room .entry)) (startAt (sessionAt (now (d .entry))) (hostOf e u (now (sign .entry))) (record { start = start; rsp = answer; cmp = cmp }) id (freePlace (sessionAt (now (d .entry)) .station))))) ⌝ }
+fn start_at(d: &mut [u8], start: u8, answer: u8, sign: u32, id: i64, room: &mut [u8]) -> Answer
+    requires { ⌜ Lies (now d) × (isReply answer ≡ true) ⌝ }
+    ensures { λ r. ⌜ _≡_ {A = Called} (called r (now (d .exit)) (now (room .exit)))
+        (calledBy (now (d .entry)) (now (room .entry)) (startAt (sessionAt (now (d .entry))) sign (startedBy start answer) id (freePlace (sessionAt (now (d .entry)) .station)))) ⌝ }
 {
     let i = free_place(d, STATION_IDS);
     if i == 16 {
         return refused(19);
     }
-    let w = write_rsp(answer, id, sign, room);
+    let none = [0u8; 0];
+    let w = put(rsp(sign, answer, id), &none, room);
     match w {
         Written::Refused(k) => refused(k),
         Written::Whole(n) => {
@@ -76,17 +78,6 @@ fn start_at(d: &mut [u8], start: u8, answer: u8, id: i64, sign: &[u8], room: &mu
             done(4, n)
         }
     }
-}
-
-// detRsp carries the host's sign.
-fn write_rsp(answer: u8, id: i64, sign: &[u8], room: &mut [u8]) -> Written
-    requires { ⌜ (length (now sign) ≡ 4) × IsRsp answer ⌝ }
-    ensures { λ r. ⌜ ((e : ℕ) (u : List ℕ) → IsWritten (now (room .entry)) r (now (room .exit)) (rspOf (hostOf e u (now (sign .entry))) answer id)) ⌝ }
-{
-    if answer == 4 {
-        return writing::write_det_rsp(id, bytes4(sign), room);
-    }
-    writing::write_bare(answer, id, room)
 }
 
 // The entry is freed by a Cmp of the same kind and ID.
@@ -105,15 +96,16 @@ fn completes(d: &mut [u8], start: u8, id: i64) -> Answer
 
 // A matching Rsp is replied to with Cmp and frees the entry.
 fn answers(d: &mut [u8], start: u8, complete: u8, id: i64, room: &mut [u8]) -> Answer
-    requires { ⌜ Lies (now d) × IsBare complete ⌝ }
-    ensures { λ r. ⌜ ((rsp : ℕ) → _≡_ {A = Called} (called r (now (d .exit)) (now (room .exit)))
-        (calledBy (now (d .entry)) (now (room .entry)) (respondAt (sessionAt (now (d .entry))) (record { start = start; rsp = rsp; cmp = complete }) id (placeOf id start (sessionAt (now (d .entry)) .centre))))) ⌝ }
+    requires { ⌜ Lies (now d) × (isBare complete ≡ true) ⌝ }
+    ensures { λ r. ⌜ _≡_ {A = Called} (called r (now (d .exit)) (now (room .exit)))
+        (calledBy (now (d .entry)) (now (room .entry)) (respondAt (sessionAt (now (d .entry))) (endedBy start complete) id (placeOf id start (sessionAt (now (d .entry)) .centre)))) ⌝ }
 {
     let i = place_of(d, CENTRE_IDS, CENTRE_KINDS, id, start);
     if i == 16 {
         return refused(17);
     }
-    let w = writing::write_bare(complete, id, room);
+    let none = [0u8; 0];
+    let w = put(bare(complete, id), &none, room);
     match w {
         Written::Refused(k) => refused(k),
         Written::Whole(n) => {

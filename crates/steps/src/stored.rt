@@ -1,4 +1,6 @@
 // What a step stores: nothing but the bytes that it names.
+use crate::bytes::clear;
+use crate::bytes::put_sixteen;
 use crate::lies::BS_UUID;
 use crate::lies::CENTRE_IDS;
 use crate::lies::CENTRE_KINDS;
@@ -12,10 +14,10 @@ use crate::lies::STATION_KINDS;
 use crate::lies::STORED;
 use octets::bits_of;
 use octets::put_little;
+use record::Sixteen;
 ghost use mathlib.Core.Path.{_≡_};
-ghost use Prim.Native.Nat.{_+_, _≤_, _<_};
-ghost use lib.ListN.{length, replicate};
-ghost use Rattle.octets.specs.Bytes.{putAt};
+ghost use Prim.Native.Nat.{_<_};
+ghost use Rattle.record.specs.Says.{sixteenBytes};
 ghost use Rattle.session.specs.Place.{taken, freed};
 ghost use Rattle.session.specs.Arrive.{withStation, withCentre, begunWith};
 ghost use Rattle.session.specs.Image.{sessionImage, sessionAt};
@@ -60,15 +62,14 @@ pub fn free_centre(d: &mut [u8], i: usize)
 }
 
 // IDs and open operations are cleared; bsEui, snBsUuid and the host's new UUID are taken.
-pub fn begin_anew(d: &mut [u8], eui: u64, bs_uuid: &[u8], sc_uuid: &[u8])
-    requires { ⌜ Lies (now d) × (length (now «bs_uuid») ≡ 16) × (length (now «sc_uuid») ≡ 16) ⌝ }
-    ensures { λ _. ⌜ now (d .exit) ≡ sessionImage (begunWith eui (now («bs_uuid» .entry)) (now («sc_uuid» .entry))) ⌝ }
+pub fn begin_anew(d: &mut [u8], eui: u64, station: Sixteen, own: Sixteen)
+    requires { ⌜ Lies (now d) ⌝ }
+    ensures { λ _. ⌜ now (d .exit) ≡ sessionImage (begunWith eui (sixteenBytes station) (sixteenBytes own)) ⌝ }
 {
-    let cleared = [0u8; 304];
     put_little(d, 0, 8, eui);
-    forms::put_run(d, HIGHEST, &cleared);
-    forms::put_run(d, BS_UUID, bs_uuid);
-    forms::put_run(d, SC_UUID, sc_uuid);
+    clear(d, HIGHEST, 304);
+    put_sixteen(d, BS_UUID, station);
+    put_sixteen(d, SC_UUID, own);
     d[STATE] = CONNECTING;
     d[STORED] = 0;
 }

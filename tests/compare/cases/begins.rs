@@ -3,8 +3,9 @@
 use super::random::Random;
 use super::writes::{room, ROOM};
 use super::{images, sessions, values};
+use crate::reference::calls;
+use crate::reference::image::Image;
 use crate::reference::session::State;
-use crate::reference::{calls, image};
 use crate::stream::Stream;
 
 pub fn one(stream: &mut Stream, random: &mut Random) {
@@ -21,9 +22,10 @@ pub fn one(stream: &mut Stream, random: &mut Random) {
 }
 
 /// A start of the centre's, mostly valid.
-pub fn message(random: &mut Random) -> Vec<u8> {
+pub fn message(random: &mut Random) -> Image {
     let name = random.pick(&["ping", "status", "attPrp", "detPrp"]);
-    let mut message = image::of_record(&values::of(random, name));
+    let record = values::of(random, name);
+    let mut message = images::of(random, &record);
     match random.below(24) {
         0 => images::valid(random),
         1 => images::spoiled(random),
@@ -37,7 +39,7 @@ pub fn message(random: &mut Random) -> Vec<u8> {
 }
 
 /// The session after it.
-pub fn hand_over(stream: &mut Stream, random: &mut Random, session: &[u8], message: &[u8]) -> Vec<u8> {
+pub fn hand_over(stream: &mut Stream, random: &mut Random, session: &[u8], message: &Image) -> Vec<u8> {
     let need = calls::begin(&mut session.to_vec(), message, &mut [0; ROOM]) >> 16;
     let room = room(random, need as usize);
     stream.begin(session, message, &room).1

@@ -2,7 +2,8 @@
 
 use crate::reference::fields::Value;
 use crate::reference::frame::{framed, IDENTIFIER};
-use crate::reference::image;
+use crate::reference::image::{self, Image};
+use crate::reference::layout::{DATA, MESSAGE};
 use crate::reference::record::Record;
 use crate::stream::Stream;
 
@@ -13,6 +14,11 @@ fn value(value: u64) -> u64 {
 
 fn refused(number: u64, place: u64) -> u64 {
     number | place << 16
+}
+
+/// Buffers to read into, filled with one byte.
+fn filled(byte: u8) -> Image {
+    Image { message: vec![byte; MESSAGE], data: vec![byte; DATA] }
 }
 
 const P: [u8; 20] = *b"\x82\xA7command\xA4ping\xA4opId\x01";
@@ -49,7 +55,7 @@ fn readings(stream: &mut Stream) {
         (vec![], refused(3, 0)),
     ];
     for (payload, answer) in examples {
-        assert_eq!(stream.read(&payload, &[0xEE; 584]), answer, "{:02X?}", payload);
+        assert_eq!(stream.read(&payload, &filled(0xEE)), answer, "{:02X?}", payload);
     }
 }
 
@@ -58,20 +64,20 @@ fn real(stream: &mut Stream) {
     let mut payload =
         b"\x88\xA7command\xA3det\xA4opId\x01\xA5epEui\x02\xA6rxTime\x03\xA9packetCnt\x04\xA3snr\xCA\0\0\0\0".to_vec();
     payload.extend(b"\xA4rssi\xCA\xC2\xC2\0\0\xA4sign\x94\0\0\0\0");
-    let mut message = [0xEE; 584];
-    crate::reference::calls::read(&payload, &mut message);
-    assert_eq!(message[144..152], [0, 0, 0, 0, 0, 0x40, 0x58, 0xC0]);
-    stream.read(&payload, &[0xEE; 584]);
+    let mut lent = filled(0xEE);
+    crate::reference::calls::read(&payload, &mut lent);
+    assert_eq!(lent.message[48..56], [0, 0, 0, 0, 0, 0x40, 0x58, 0xC0]);
+    stream.read(&payload, &filled(0xEE));
 }
 
 /// "size 4,096 accepted, 4,097 refused; 1,024 elements pass, 1,025 not"
 fn limits(stream: &mut Stream) {
     let elements = |count: usize| [vec![0xDC, ((count - 7) >> 8) as u8, (count - 7) as u8], vec![0xC0; count - 7]].concat();
-    assert_eq!(stream.read(&with_extra(&elements(1024)), &[0; 584]), value(1024));
-    assert_eq!(stream.read(&with_extra(&elements(1025)), &[0; 584]), refused(7, 26 + 3 + 1017));
+    assert_eq!(stream.read(&with_extra(&elements(1024)), &filled(0)), value(1024));
+    assert_eq!(stream.read(&with_extra(&elements(1025)), &filled(0)), refused(7, 26 + 3 + 1017));
     let bin = |count: usize| [vec![0xC5, (count >> 8) as u8, count as u8], vec![0xAB; count]].concat();
-    assert_eq!(stream.read(&with_extra(&bin(4096 - 29)), &[0; 584]), value(7));
-    assert_eq!(stream.read(&with_extra(&bin(4097 - 29)), &[0; 584]), refused(3, 0));
+    assert_eq!(stream.read(&with_extra(&bin(4096 - 29)), &filled(0)), value(7));
+    assert_eq!(stream.read(&with_extra(&bin(4097 - 29)), &filled(0)), refused(3, 0));
     for (size, answer) in [(1, value(13)), (4096, value(4108)), (4097, refused(3, 0)), (0, refused(3, 0))] {
         assert_eq!(stream.frame(&framed(&vec![0; size])), answer);
     }
@@ -131,6 +137,6 @@ fn texts(stream: &mut Stream) {
         (b"\x83\xA7command\xA4ping\xA4opId\x01\xA4opId\x01", refused(13, 0)),
     ];
     for (payload, answer) in examples {
-        assert_eq!(stream.read(payload, &[0xEE; 584]), answer);
+        assert_eq!(stream.read(payload, &filled(0xEE)), answer);
     }
 }

@@ -2,9 +2,9 @@
 
 use super::node::{any, any_key, text, Node};
 use super::random::Random;
-use super::{bytes, limits, spoil, values};
+use super::{bytes, images, limits, spoil, values};
 use crate::reference::fields::{kind, Kind, Value};
-use crate::reference::layout::{size, MESSAGE};
+use crate::reference::layout::DATA;
 use crate::reference::record::Record;
 use crate::reference::{image, read};
 use crate::stream::Stream;
@@ -19,11 +19,14 @@ pub fn one(stream: &mut Stream, random: &mut Random) {
         17..=18 => limits::one(random),
         _ => bytes::any(random),
     };
-    // a message buffer of a wrong length is 15 before all else
-    let usual = size(MESSAGE);
-    let length = if random.one_in(40) { random.pick(&[0, 1, usual - 1, usual + 1, 2 * usual]) } else { usual };
-    let message = random.bytes(length);
-    stream.read(&payload, &message);
+    // a message buffer of a wrong length, or data too short, are 15 before all else
+    let mut lent = images::to_read_into(random);
+    match random.below(80) {
+        0 | 1 => lent.message.resize(random.pick(&images::WRONG_LENGTHS), 0),
+        2 | 3 => lent.data.truncate(random.pick(&[0, 1, 64, DATA - 1])),
+        _ => {}
+    }
+    stream.read(&payload, &lent);
 }
 
 /// A valid payload; the reference must read it as the record that it was made of.

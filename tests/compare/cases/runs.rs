@@ -1,7 +1,7 @@
 //! Long runs of one session, from the empty one: connections, starts of both sides, completions, losses and resumes.
 
 use super::random::Random;
-use super::{begins, cons, sessions, values};
+use super::{begins, cons, images, sessions, values};
 use crate::reference::fields::Value;
 use crate::reference::image;
 use crate::reference::layout::{size, SESSION};
@@ -47,7 +47,8 @@ fn step(stream: &mut Stream, random: &mut Random, bytes: &[u8], mood: Mood) -> V
         return begins::hand_over(stream, random, bytes, &message);
     }
     let message = message(random, &session, mood);
-    sessions::hand_over(stream, random, bytes, &image::of_record(&message))
+    let image = images::of(random, &message);
+    sessions::hand_over(stream, random, bytes, &image)
 }
 
 fn message(random: &mut Random, session: &Session, mood: Mood) -> Record {

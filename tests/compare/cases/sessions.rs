@@ -5,6 +5,7 @@ use super::writes::{room, ROOM};
 use super::{cons, images, values};
 use crate::reference::commands::COMMANDS;
 use crate::reference::fields::Value;
+use crate::reference::image::Image;
 use crate::reference::record::Record;
 use crate::reference::session::{Place, Session, State};
 use crate::reference::{calls, image};
@@ -19,7 +20,8 @@ pub fn arrive(stream: &mut Stream, random: &mut Random) {
         0 => images::spoiled(random),
         1 => images::wrong_length(random),
         _ => {
-            let mut message = image::of_record(&fitting(random, &session));
+            let record = fitting(random, &session);
+            let mut message = images::of(random, &record);
             if random.one_in(16) {
                 images::spoil(random, &mut message);
             }
@@ -36,7 +38,7 @@ pub fn lost(stream: &mut Stream, random: &mut Random) {
 }
 
 /// Hands a message over with any bytes of the host's and any room; the session after it.
-pub fn hand_over(stream: &mut Stream, random: &mut Random, session: &[u8], message: &[u8]) -> Vec<u8> {
+pub fn hand_over(stream: &mut Stream, random: &mut Random, session: &[u8], message: &Image) -> Vec<u8> {
     let sc_eui = random.number();
     let (mut uuid, mut sign) = (random.bytes(16), random.bytes(4));
     match random.below(60) {

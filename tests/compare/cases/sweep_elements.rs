@@ -1,5 +1,6 @@
 //! Every lead byte in every place: outermost, as key and as value, at and over the limits of depth and count, whole and cut.
 
+use super::images::to_read_into;
 use super::random::Random;
 use crate::stream::Stream;
 
@@ -8,10 +9,10 @@ pub fn all(stream: &mut Stream, random: &mut Random) {
     for lead in 0..=255 {
         for tail in &tails {
             let bytes = [&[lead], &tail[..]].concat();
-            stream.read(&bytes, &random.bytes(584));
+            stream.read(&bytes, &to_read_into(random));
             for is_key in [false, true] {
                 for (depth, number) in [(3, 5), (8, 20), (9, 20), (8, 1024), (9, 1024), (8, 1025), (9, 1025)] {
-                    stream.read(&placed(&bytes, is_key, depth, number), &random.bytes(584));
+                    stream.read(&placed(&bytes, is_key, depth, number), &to_read_into(random));
                 }
             }
         }

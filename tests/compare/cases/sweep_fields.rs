@@ -1,5 +1,6 @@
 //! Every key of every command with every value near its range; left out, twice and nil; and all faults together with all.
 
+use super::images;
 use super::near;
 use super::node::{text, Node};
 use super::payloads::{d_value, dressed, Pairs};
@@ -24,7 +25,7 @@ pub fn all(stream: &mut Stream, random: &mut Random) {
 
 fn hand_over(stream: &mut Stream, random: &mut Random, pairs: Pairs) {
     let payload = Node::Map(pairs).bytes(random);
-    stream.read(&payload, &random.bytes(584));
+    stream.read(&payload, &images::to_read_into(random));
 }
 
 /// A valid message of the command in which this key is left out.

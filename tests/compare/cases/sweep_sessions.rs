@@ -2,11 +2,11 @@
 
 use super::random::Random;
 use super::writes::ROOM;
-use super::{sessions, values};
+use super::{images, sessions, values};
 use crate::reference::commands::COMMANDS;
 use crate::reference::fields::Value;
 use crate::reference::image;
-use crate::reference::layout::{size, SESSION};
+use crate::reference::layout::{self, size, SESSION};
 use crate::reference::record::Record;
 use crate::reference::session::{Place, Session, State};
 use crate::stream::Stream;
@@ -20,6 +20,7 @@ pub fn all(stream: &mut Stream, random: &mut Random) {
             starts(stream, random, state, command.name);
         }
     }
+    bad_starts(stream, random);
     resumes(stream, random);
     versions(stream, random);
     session_images(stream, random);
@@ -43,7 +44,8 @@ fn session_images(stream: &mut Stream, random: &mut Random) {
 }
 
 fn all_calls(stream: &mut Stream, random: &mut Random, session: &[u8]) {
-    let message = image::of_record(&values::of(random, "ping"));
+    let ping = values::of(random, "ping");
+    let message = images::of(random, &ping);
     stream.lost(session);
     stream.begin(session, &message, &random.bytes(ROOM));
     sessions::hand_over(stream, random, session, &message);
@@ -67,7 +69,8 @@ fn arrivals(stream: &mut Stream, random: &mut Random, state: State, name: &str) 
     for id in [0, 1, -1, 4, 5, 6, -5, 15, 16, i64::MAX, i64::MIN] {
         for _ in 0..if state == State::Open { 16 } else { 2 } {
             let session = image::of_session(&entries(random, state));
-            let message = image::of_record(&values::of(random, name).with("opId", Value::Whole(id.into())));
+            let record = values::of(random, name).with("opId", Value::Whole(id.into()));
+            let message = images::of(random, &record);
             sessions::hand_over(stream, random, &session, &message);
         }
     }
@@ -82,7 +85,33 @@ fn starts(stream: &mut Stream, random: &mut Random, state: State, name: &str) {
             if let Some(place) = session.centre.get_mut(free) {
                 place.id = 0;
             }
-            let message = image::of_record(&values::of(random, name));
+            let record = values::of(random, name);
+            let message = images::of(random, &record);
+            stream.begin(&image::of_session(&session), &message, &random.bytes(ROOM));
+        }
+    }
+}
+
+/// "a bad record there is 15 after 19": attPrp with each mark wrong, where 17, 18 or 19 come before it and where none does; then a
+/// command that there isn't.
+fn bad_starts(stream: &mut Stream, random: &mut Random) {
+    let marks = images::marks(layout::message("attPrp"));
+    let faults: Vec<(usize, u8)> = marks.into_iter().flat_map(|at| [(at, 2), (at, 255)]).chain([(image::COMMAND, 21)]).collect();
+    for (at, byte) in faults {
+        for (state, lowest, id) in [
+            (State::Open, 0, 0),
+            (State::Open, 0, 3),
+            (State::Open, i64::MIN, 0),
+            (State::Open, i64::MIN, 3),
+            (State::Waiting, 0, 0),
+            (State::Connecting, i64::MIN, 3),
+        ] {
+            let mut session = entries(random, state);
+            session.lowest = lowest;
+            session.centre.iter_mut().for_each(|place| place.id = id);
+            let record = values::of(random, "attPrp");
+            let mut message = images::of(random, &record);
+            message.message[at] = byte;
             stream.begin(&image::of_session(&session), &message, &random.bytes(ROOM));
         }
     }
@@ -102,7 +131,8 @@ fn resumes(stream: &mut Stream, random: &mut Random) {
                     let mut con = con(random, &session, [1, 0, 0]);
                     set(&mut con, "snBsOpId", bs);
                     set(&mut con, "snScOpId", sc.map(|id| if id == i64::MAX { i64::MIN } else { -id }));
-                    sessions::hand_over(stream, random, &image::of_session(&session), &image::of_record(&con));
+                    let message = images::of(random, &con);
+                    sessions::hand_over(stream, random, &image::of_session(&session), &message);
                 }
             }
         }
@@ -129,7 +159,8 @@ fn con(random: &mut Random, session: &Session, version: [u16; 3]) -> Record {
 fn versions(stream: &mut Stream, random: &mut Random) {
     let session = Session { stored: true, highest: 5, lowest: -5, ..entries(random, State::Waiting) };
     let mut hand = |con: Record, random: &mut Random| {
-        sessions::hand_over(stream, random, &image::of_session(&session), &image::of_record(&con))
+        let message = images::of(random, &con);
+        sessions::hand_over(stream, random, &image::of_session(&session), &message)
     };
     for version in
         [[1, 0, 0], [1, 0, 1], [1, 0, 65535], [1, 1, 0], [0, 0, 0], [0, 1, 0], [2, 0, 0], [257, 0, 0], [1, 256, 0], [65535, 0, 0]]

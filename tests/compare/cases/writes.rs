@@ -3,6 +3,8 @@
 use super::images;
 use super::random::Random;
 use crate::reference::calls;
+use crate::reference::image::Image;
+use crate::reference::layout::MESSAGE;
 use crate::stream::Stream;
 
 pub fn one(stream: &mut Stream, random: &mut Random) {
@@ -10,7 +12,10 @@ pub fn one(stream: &mut Stream, random: &mut Random) {
         0..=8 => images::valid(random),
         9..=17 => images::spoiled(random),
         18 => images::wrong_length(random),
-        _ => random.bytes(584),
+        _ => {
+            let length = random.below(300);
+            Image { message: random.bytes(MESSAGE), data: random.bytes(length) }
+        }
     };
     let need = calls::write(&image, &mut [0; ROOM]) >> 16;
     let room = room(random, need as usize);

@@ -3,8 +3,8 @@
 
 use super::commands::COMMANDS;
 use super::fields::Value;
-use super::image::{of_record, of_session, to_record, to_session};
-use super::layout::{member, size, MESSAGE};
+use super::image::{of_record, of_session, to_record, to_session, Image, COMMAND};
+use super::layout::{DATA, MESSAGE};
 use super::record::Record;
 use super::refusal::*;
 use super::session::{Happened, Host};
@@ -26,12 +26,16 @@ pub fn form(payload: &[u8]) -> u64 {
     answered(super::elements::walk(payload).map(|(_, count)| answer(0, count)))
 }
 
-pub fn read(payload: &[u8], message: &mut [u8]) -> u64 {
-    if message.len() != size(MESSAGE) {
+/// "All CHZ_MESSAGE bytes of the message are set, and as many of data as the message says. A message that is not CHZ_MESSAGE
+/// bytes long, or data of fewer than CHZ_DATA, are 15 before all others."
+pub fn read(payload: &[u8], lent: &mut Image) -> u64 {
+    if lent.message.len() != MESSAGE || lent.data.len() < DATA {
         return answered(Err(INVALID));
     }
     answered(super::read::read(payload).map(|(record, count)| {
-        message.copy_from_slice(&of_record(&record));
+        let image = of_record(&record);
+        lent.message.copy_from_slice(&image.message);
+        lent.data[..image.data.len()].copy_from_slice(&image.data);
         answer(0, count)
     }))
 }
@@ -44,18 +48,18 @@ fn put(record: &Record, room: &mut [u8]) -> Result<usize, Refusal> {
 }
 
 /// "Writing: 15 before 20."
-pub fn write(message: &[u8], room: &mut [u8]) -> u64 {
-    let record = to_record(message).ok_or(INVALID);
+pub fn write(image: &Image, room: &mut [u8]) -> u64 {
+    let record = to_record(image).ok_or(INVALID);
     answered(record.and_then(|record| put(&record, room)).map(|length| answer(0, length)))
 }
 
 /// "An arriving record outside its ranges, or host bytes of a wrong length, is 15 before all these."
 /// "A session step that can't fit its reply gives 20 last and takes no step."
-pub fn arrive(session: &mut [u8], message: &[u8], sc_eui: u64, uuid: &[u8], sign: &[u8], room: &mut [u8]) -> u64 {
+pub fn arrive(session: &mut [u8], image: &Image, sc_eui: u64, uuid: &[u8], sign: &[u8], room: &mut [u8]) -> u64 {
     let mut step = || {
         let before = to_session(session).ok_or(INVALID)?;
         let host = Host { sc_eui, uuid: uuid.try_into().or(Err(INVALID))?, sign: sign.try_into().or(Err(INVALID))? };
-        let step = before.arrive(&to_record(message).ok_or(INVALID)?, &host)?;
+        let step = before.arrive(&to_record(image).ok_or(INVALID)?, &host)?;
         let length = step.send.map_or(Ok(0), |reply| put(&reply, room))?;
         session.copy_from_slice(&of_session(&step.session));
         Ok(answer(step.happened as u8, length))
@@ -64,15 +68,15 @@ pub fn arrive(session: &mut [u8], message: &[u8], sc_eui: u64, uuid: &[u8], sign
 }
 
 /// "a centre start writes its message under the ID issued, and a bad record there is 15 after 19"
-pub fn begin(session: &mut [u8], message: &[u8], room: &mut [u8]) -> u64 {
+pub fn begin(session: &mut [u8], image: &Image, room: &mut [u8]) -> u64 {
     let mut step = || {
         let before = to_session(session).ok_or(INVALID)?;
-        if message.len() != size(MESSAGE) {
+        // "bytes that are no session or a buffer of a wrong length are 15 before these"
+        if image.message.len() != MESSAGE {
             return Err(INVALID);
         }
-        let command = message[member(MESSAGE, "command").expect("a member")][0];
-        let after = before.begin(COMMANDS.get(command as usize).ok_or(STATE)?.name)?;
-        let record = to_record(message).ok_or(INVALID)?.with("opId", Value::Whole(after.lowest.into()));
+        let after = before.begin(COMMANDS.get(image.message[COMMAND] as usize).ok_or(STATE)?.name)?;
+        let record = to_record(image).ok_or(INVALID)?.with("opId", Value::Whole(after.lowest.into()));
         let length = put(&record, room)?;
         session.copy_from_slice(&of_session(&after));
         Ok(answer(Happened::Issued as u8, length))

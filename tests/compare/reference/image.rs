@@ -1,13 +1,24 @@
 //! A record or a session as the bytes of the header's struct, and back.
-//! "What its command has not, and what is absent, is zero, so equal messages are equal bytes": so an image is a record's
-//! exactly if laying that record out gives the same bytes again.
+//! "Nothing else is looked at" than a command's own fields, and of these a record's bytes are the only ones: marks 0 or 1, absent
+//! fields and what stands behind a profile zero. So an image is a record's exactly if laying that record out gives the same
+//! fields again.
 
 use super::commands::{self, COMMANDS};
 use super::fields::{kind, Kind, Value};
-use super::layout::{member, size, Layout, MESSAGE, SESSION};
+use super::layout::{self, fields, member, size, Layout, MESSAGE, SESSION};
 use super::record::Record;
 use super::session::{Place, Session, State};
 use std::collections::HashMap;
+
+/// What a call takes as one message: the struct's bytes in front of its data, and the data.
+#[derive(Clone, Debug, PartialEq, Eq)]
+pub struct Image {
+    pub message: Vec<u8>,
+    pub data: Vec<u8>,
+}
+
+/// Where a message says its command.
+pub const COMMAND: usize = 8;
 
 /// bsEui is bs_eui in the header, and so on.
 fn snake(key: &str) -> String {
@@ -15,12 +26,12 @@ fn snake(key: &str) -> String {
     key.chars().map(letter).collect()
 }
 
-/// The member that holds how long a field is.
-fn length_name(key: &str) -> String {
-    if key == "userData" {
-        "user_len".to_string()
-    } else {
-        format!("{}_len", key)
+/// "User data or the status text goes into data, its length into user_len or message_len."
+fn length_beside(key: &str) -> Option<&'static str> {
+    match key {
+        "userData" => Some("user_len"),
+        "message" => Some("message_len"),
+        _ => None,
     }
 }
 
@@ -41,65 +52,79 @@ fn number(bytes: &[u8]) -> u64 {
     bytes.iter().rev().fold(0, |number, byte| number << 8 | u64::from(*byte))
 }
 
-pub fn of_record(record: &Record) -> Vec<u8> {
-    let mut image = vec![0; size(MESSAGE)];
-    put(MESSAGE, &mut image, "command", &[commands::number(record.command.name)]);
+/// Zeros where the command has nothing; no more data than the record has.
+pub fn of_record(record: &Record) -> Image {
+    let layout = layout::message(record.command.name);
+    let mut image = Image { message: vec![0; MESSAGE], data: Vec::new() };
+    put(layout, &mut image.message, "command", &[commands::number(record.command.name)]);
     for (key, value) in &record.fields {
-        let name = snake(key);
-        put_value(&mut image, key, &name, value);
-        let mark = format!("has_{}", name);
-        if member(MESSAGE, &mark).is_some() {
-            put(MESSAGE, &mut image, &mark, &[1]);
+        put_value(layout, &mut image, key, value);
+        let mark = format!("has_{}", snake(key));
+        if member(layout, &mark).is_some() {
+            put(layout, &mut image.message, &mark, &[1]);
         }
     }
     image
 }
 
-fn put_value(image: &mut [u8], key: &str, name: &str, value: &Value) {
+fn put_value(layout: Layout, image: &mut Image, key: &str, value: &Value) {
+    let name = snake(key);
+    let message = &mut image.message;
     let real = |number: &f64| number.to_bits().to_le_bytes();
     match value {
         Value::Whole(number) => {
-            let width = member(MESSAGE, name).expect(name).len();
-            put(MESSAGE, image, name, &number.to_le_bytes()[..width]);
+            let width = member(layout, &name).expect(&name).len();
+            put(layout, message, &name, &number.to_le_bytes()[..width]);
         }
-        Value::Real(number) => put(MESSAGE, image, name, &real(number)),
-        Value::Flag(flag) => put(MESSAGE, image, name, &[u8::from(*flag)]),
-        Value::Location(reals) => LOCATION.iter().zip(reals).for_each(|(name, number)| put(MESSAGE, image, name, &real(number))),
+        Value::Real(number) => put(layout, message, &name, &real(number)),
+        Value::Flag(flag) => put(layout, message, &name, &[u8::from(*flag)]),
+        Value::Location(reals) => LOCATION.iter().zip(reals).for_each(|(name, number)| put(layout, message, name, &real(number))),
         Value::Version(parts) => {
-            VERSION.iter().zip(parts).for_each(|(name, part)| put(MESSAGE, image, name, &part.to_le_bytes()));
+            VERSION.iter().zip(parts).for_each(|(name, part)| put(layout, message, name, &part.to_le_bytes()));
         }
-        Value::Bytes(bytes) | Value::Text(bytes) => {
-            put(MESSAGE, image, name, bytes);
-            if member(MESSAGE, &length_name(key)).is_some() {
-                put(MESSAGE, image, &length_name(key), &[bytes.len() as u8]);
-            }
-        }
+        Value::Bytes(bytes) | Value::Text(bytes) => put_bytes(layout, image, key, bytes),
+    }
+}
+
+fn put_bytes(layout: Layout, image: &mut Image, key: &str, bytes: &[u8]) {
+    if let Some(length) = length_beside(key) {
+        image.data = bytes.to_vec();
+        return put(layout, &mut image.message, length, &[bytes.len() as u8]);
+    }
+    put(layout, &mut image.message, &snake(key), bytes);
+    if key == "profile" {
+        put(layout, &mut image.message, "profile_len", &[bytes.len() as u8]);
     }
 }
 
 /// The record whose image this is, if it is one's and the record is valid.
-pub fn to_record(image: &[u8]) -> Option<Record> {
-    if image.len() != size(MESSAGE) {
+pub fn to_record(image: &Image) -> Option<Record> {
+    if image.message.len() != MESSAGE {
         return None;
     }
-    let command = COMMANDS.get(get(MESSAGE, image, "command")[0] as usize)?;
-    let mut fields = HashMap::new();
+    let command = COMMANDS.get(image.message[COMMAND] as usize)?;
+    let layout = layout::message(command.name);
+    let mut values = HashMap::new();
     for key in command.keys().filter(|key| key.kept) {
         let mark = format!("has_{}", snake(key.name));
-        if member(MESSAGE, &mark).map_or(true, |mark| image[mark][0] == 1) {
-            if let Some(value) = get_value(image, key.name)? {
-                fields.insert(key.name, value);
+        if member(layout, &mark).map_or(true, |mark| image.message[mark][0] == 1) {
+            if let Some(value) = get_value(layout, image, key.name)? {
+                values.insert(key.name, value);
             }
         }
     }
-    let record = Record { command, fields };
-    Some(record).filter(|record| record.is_valid() && of_record(record) == image)
+    let record = Record { command, fields: values };
+    Some(record).filter(|record| record.is_valid() && same_fields(layout, &of_record(record), image))
 }
 
-/// None: a length that its array doesn't have. Some(None): a profile of length 0 or a format of 0, which mean absent.
-fn get_value(image: &[u8], key: &str) -> Option<Option<Value>> {
+fn same_fields(layout: Layout, one: &Image, other: &Image) -> bool {
+    fields(layout).all(|(_, range)| one.message[range.clone()] == other.message[range])
+}
+
+/// None: a length that its bytes don't have. Some(None): a profile of length 0 or a format of 0, which mean absent.
+fn get_value(layout: Layout, image: &Image, key: &str) -> Option<Option<Value>> {
     let name = snake(key);
-    let part = |name: &str| get(MESSAGE, image, name);
+    let part = |name: &str| get(layout, &image.message, name);
     let real = |name: &str| f64::from_bits(number(part(name)));
     let value = match kind(key) {
         Kind::Whole(range) => {
@@ -111,8 +136,8 @@ fn get_value(image: &[u8], key: &str) -> Option<Option<Value>> {
         Kind::Real => Value::Real(real(&name)),
         Kind::Location => Value::Location([real(LOCATION[0]), real(LOCATION[1]), real(LOCATION[2])]),
         Kind::Version => Value::Version([0, 1, 2].map(|i: usize| number(part(VERSION[i])) as u16)),
-        Kind::Bytes(_) => Value::Bytes(counted(image, key, &name)?),
-        Kind::Text(_) => Value::Text(counted(image, key, &name)?),
+        Kind::Bytes(_) => Value::Bytes(counted(layout, image, key)?),
+        Kind::Text(_) => Value::Text(counted(layout, image, key)?),
         _ => Value::Flag(part(&name)[0] == 1),
     };
     let absent = match &value {
@@ -123,13 +148,14 @@ fn get_value(image: &[u8], key: &str) -> Option<Option<Value>> {
     Some(if absent { None } else { Some(value) })
 }
 
-/// The first bytes of an array, as many as its length member states; all where it has none.
-fn counted(image: &[u8], key: &str, name: &str) -> Option<Vec<u8>> {
-    let all = get(MESSAGE, image, name);
-    let length = match member(MESSAGE, &length_name(key)) {
-        Some(length) => image[length][0] as usize,
-        None => all.len(),
-    };
+/// The first bytes of the data or of an array, as many as a length member states; all where there is none.
+fn counted(layout: Layout, image: &Image, key: &str) -> Option<Vec<u8>> {
+    let stated = |name: &str| get(layout, &image.message, name)[0] as usize;
+    if let Some(length) = length_beside(key) {
+        return image.data.get(..stated(length)).map(<[u8]>::to_vec);
+    }
+    let all = get(layout, &image.message, &snake(key));
+    let length = if key == "profile" { stated("profile_len") } else { all.len() };
     all.get(..length).map(<[u8]>::to_vec)
 }
 

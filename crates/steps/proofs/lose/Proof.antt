@@ -1,8 +1,7 @@
 -- While waiting nothing changes; else the state and the mark are stored. Assumes nothing.
-use native.Mathlib.Omega.{arith}
 use borrow.Author.Needs.{needs}
 use Rattle.steps.proofs.Losing.{lost-wrong, lost-waiting, lost-stored}
-use Rattle.steps.proofs.Calling.{in-session, in-session-set}
+use Rattle.steps.proofs.Calling.{callings}
 use Rattle.steps.proofs.lose.Statement.{statement}
 use Rattle.steps.proofs.lose.Tie as tie
 
@@ -19,7 +18,7 @@ returns : tie.Need-returns
 returns c = lost-wrong _ _ (c .before .before .is-session .ensures) _ (c .before .if1 .taken) (c .refused .ensures)
 
 slice-read-if2 : tie.Need-slice-read-if2
-slice-read-if2 c = in-session _ _ (c .before .before .is-session .ensures) (c .before .if1 .left) 344 (omega arith)
+slice-read-if2 c = search (callings, needs)
 
 done-requires : tie.Need-done-requires
 done-requires c κs = search needs
@@ -31,10 +30,10 @@ returns-2 : tie.Need-returns-2
 returns-2 c = lost-waiting _ _ (c .before .before .before .before .is-session .ensures) _ (c .before .before .before .if1 .left) (c .before .before .before .before .before .before .slice-known .given) (c .before .if2 .taken) (c .done .ensures)
 
 slice-write-d : tie.Need-slice-write-d
-slice-write-d c = in-session _ _ (c .before .before .before .is-session .ensures) (c .before .before .if1 .left) 344 (omega arith)
+slice-write-d c = search (callings, needs)
 
 slice-write-d-2 : tie.Need-slice-write-d-2
-slice-write-d-2 c = in-session-set _ _ (c .before .before .before .is-session .ensures) (c .before .before .if1 .left) 344 0 345 (omega arith)
+slice-write-d-2 c = search (callings, needs)
 
 done-requires-2 : tie.Need-done-requires-2
 done-requires-2 c κs = search needs

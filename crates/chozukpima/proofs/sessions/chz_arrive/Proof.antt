@@ -1,32 +1,45 @@
--- A message of another length is 15; else the answer is that of the step on its record. Assumes nothing.
-use Rattle.chozukpima.proofs.Calls.{arrive-short, arrive-whole}
+use Rattle.chozukpima.proofs.Calls.{calls}
 use borrow.Author.Needs.{needs}
 use Rattle.chozukpima.proofs.sessions.chz_arrive.Statement.{statement}
 use Rattle.chozukpima.proofs.sessions.chz_arrive.Tie as tie
+use Rattle.chozukpima.proofs.sessions.chz_arrive.Reads as reads
+use Rattle.chozukpima.proofs.sessions.chz_arrive.Lts as lts
+use Rattle.chozukpima.proofs.answer.refuse.Reads as refuse-reads
+use Rattle.chozukpima.proofs.sessions.step_answer.Reads as step-answer-reads
+use Rattle.layout.proofs.message_in.Reads as message-in-reads
+use Rattle.steps.proofs.arrive.Reads as arrive-reads
 
+-- src/sessions.rt:30:9
 refuse-requires : tie.Need-refuse-requires
 refuse-requires c κs = search needs
 
+-- src/sessions.rt:30:9
 returns : tie.Need-returns
-returns c = arrive-short _ _ _ _ (c .before .before .before .before .before .before .before .args .sc-eui) (c .before .before .before .before .before .before .before .args .uuid .now) (c .before .before .before .before .before .before .before .args .sign .now) (c .before .if1 .taken) (c .refuse .ensures)
+returns c = search calls
 
-record-in-requires : tie.Need-record-in-requires
-record-in-requires c κs = search needs
+-- src/sessions.rt:32:9
+message-in-requires : tie.Need-message-in-requires
+message-in-requires c κs = search needs
 
+-- src/sessions.rt:33:17
 arrive-requires : tie.Need-arrive-requires
 arrive-requires c κs = search needs
 
+-- src/sessions.rt:33:5
 step-answer-requires : tie.Need-step-answer-requires
 step-answer-requires c κs = search needs
 
+-- src/sessions.rt:16:1
 same-length : tie.Need-same-length
 same-length c = search needs
 
+-- src/sessions.rt:16:1
 same-length-2 : tie.Need-same-length-2
 same-length-2 c = search needs
 
+-- src/sessions.rt:16:1
 returns-2 : tie.Need-returns-2
-returns-2 c = arrive-whole _ _ _ _ _ (c .before .before .before .before .before .before .before .before .record-in .ensures) (c .before .before .before .before .before .before .before .before .before .if1 .left) _ _ _ (c .step-answer .ensures) (c .before .before .before .before .before .before .before .before .before .before .before .before .before .before .before .args .sc-eui) (c .before .before .before .before .before .before .before .before .before .before .before .before .before .before .before .args .uuid .now) (c .before .before .before .before .before .before .before .before .before .before .before .before .before .before .before .args .sign .now) (c .before .before .before .before .before .arrive .ensures)
+returns-2 c = search calls
 
 pub chz-arrive-spec : {M : Type 1} → statement M
 chz-arrive-spec =
@@ -34,7 +47,7 @@ chz-arrive-spec =
     (tie.spec
     refuse-requires
     returns
-    record-in-requires
+    message-in-requires
     arrive-requires
     step-answer-requires
     same-length

@@ -13,11 +13,18 @@ shared-slice-read-result c = search needs
 shared-slice-read-result-2 : tie.Need-shared-slice-read-result-2
 shared-slice-read-result-2 c = search needs
 
-spare-is-zero-requires : tie.Need-spare-is-zero-requires
-spare-is-zero-requires c κs = search needs
+zeros-from-requires : tie.Need-zeros-from-requires
+zeros-from-requires c κs = search needs
 
 returns-2 : tie.Need-returns-2
 returns-2 c = search (session-test, needs)
 
 pub is-session-spec : {M : Type 1} → statement M
-is-session-spec = tie.close (tie.spec returns shared-slice-read-result shared-slice-read-result-2 spare-is-zero-requires returns-2)
+is-session-spec =
+    tie.close
+    (tie.spec
+    returns
+    shared-slice-read-result
+    shared-slice-read-result-2
+    zeros-from-requires
+    returns-2)

@@ -1,8 +1,7 @@
--- A Cmp with an entry of its kind and ID frees it. Assumes nothing.
-use native.Mathlib.Omega.{arith}
+-- A Cmp frees the lowest place with its ID and kind. Assumes nothing.
 use borrow.Author.Needs.{needs}
-use Rattle.steps.proofs.Storing.{long}
 use Rattle.steps.proofs.Branches.{branches}
+use Rattle.steps.proofs.Storing.{long}
 use Rattle.steps.proofs.operate.completes.Statement.{statement}
 use Rattle.steps.proofs.operate.completes.Tie as tie
 
@@ -10,25 +9,25 @@ place-of-requires : tie.Need-place-of-requires
 place-of-requires c κs = search (branches, long, needs)
 
 refused-requires : tie.Need-refused-requires
-refused-requires c κs = search (branches, long, needs)
+refused-requires c κs = search needs
 
 same-length : tie.Need-same-length
-same-length c = search (branches, long, needs)
+same-length c = search needs
 
 returns : tie.Need-returns
-returns c room = search (branches, long, needs)
+returns c = search (branches, long, needs)
 
 free-station-requires : tie.Need-free-station-requires
 free-station-requires c κs = search (branches, long, needs)
 
 done-requires : tie.Need-done-requires
-done-requires c κs = search (branches, long, needs)
+done-requires c κs = search needs
 
 same-length-2 : tie.Need-same-length-2
-same-length-2 c = search (branches, long, needs)
+same-length-2 c = search needs
 
 returns-2 : tie.Need-returns-2
-returns-2 c room = search (branches, long, needs)
+returns-2 c = search (branches, long, needs)
 
 pub completes-spec : {M : Type 1} → statement M
 completes-spec =

@@ -1,0 +1,10 @@
+pub mod Reals
+pub mod Ids
+pub mod Chain
+pub mod Typed
+pub mod Parts
+pub mod Tails
+pub mod Steps
+pub mod Bodies
+pub mod Settled
+pub mod Longer

@@ -1,0 +1,70 @@
+-- Reals that may be absent, each law in the shape of a need of the code. A real is unlike itself exactly if it is a NaN: `x != x` in the code.
+-- A NaN is neither finite nor zero. Assumes nothing.
+use mathlib.Core.Path.{_≡_, refl, sym, _∙_}
+use mathlib.Core.Bool.{Bool, true, false, not, Bool·beq, and-true}
+use Prim.Native.Nat.{_*_}
+use lib.Dec.{T, eqb}
+use lib.Ieee.{Float, nan, inf, fin, binary64, ne, eq, isNan, toBits, fits as holds, up, down}
+use borrow.Author.Tests.{eq-eqb}
+use Rattle.octets.proofs.Ranges.{true-false}
+use Rattle.number.specs.Number.{finite}
+use Rattle.message.specs.declared.MaybePosition.{MaybePosition}
+use Rattle.saying.specs.Says.{noBits, noPlace}
+use Rattle.saying.specs.Fits.{isReal, isPlace}
+use Rattle.faults.specs.Tests.{realFits, placeFits}
+
+beq-self : (b : Bool) → Bool·beq b b ≡ true
+beq-self true = refl
+beq-self false = refl
+
+unlike-self : (x : Float) → ne x x ≡ isNan x
+unfolding ne eq isNan
+unlike-self nan = refl
+unlike-self (inf s) = rw beq-self
+unlike-self (fin s m e) = rw (eq-eqb (m * up e * down e) (m * up e * down e) refl, beq-self s)
+
+pub no-nan : (x : Float) → ne x x ≡ false → T (not (isNan x))
+no-nan x e = rw (← unlike-self, e) tt
+
+is-nan : (x : Float) → isNan x ≡ true → x ≡ nan
+unfolding isNan
+is-nan nan e = refl
+is-nan (inf s) e = true-false (sym e)
+is-nan (fin s m e) q = true-false (sym q)
+
+pub nan-unreal : (x : Float) → ne x x ≡ true → false ≡ isReal x
+unfolding toBits
+nan-unreal x e = rw (is-nan x (sym (unlike-self x) ∙ e)) refl
+
+pub nan-bits : (x : Float) → ne x x ≡ true → false ≡ noBits x
+unfolding toBits
+nan-bits x e = rw (is-nan x (sym (unlike-self x) ∙ e)) refl
+
+pub held-real : (x : Float) → holds binary64 x ≡ true → finite binary64 (toBits binary64 x) ≡ isReal x
+held-real x e = rw (e, and-true)
+
+pub held-bits : (x : Float) → holds binary64 x ≡ true → eqb (toBits binary64 x) 0 ≡ noBits x
+held-bits x e = rw (e, and-true)
+
+pub ruleset reals = (no-nan, nan-unreal, nan-bits, held-real, held-bits)
+
+-- where it is here, and where it is absent
+module _ (here r : Bool) (x : Float) where
+  pub real-here : here ≡ true → r ≡ isReal x → r ≡ realFits here x
+  unfolding realFits
+  real-here e f = rw e f
+
+  pub real-absent : here ≡ false → r ≡ noBits x → r ≡ realFits here x
+  unfolding realFits
+  real-absent e f = rw e f
+
+module _ (x : MaybePosition) (r : Bool) where
+  pub place-here : x .here ≡ true → r ≡ isPlace (x .value) → r ≡ placeFits x
+  unfolding placeFits
+  place-here e f = rw e f
+
+  pub place-absent : x .here ≡ false → r ≡ noPlace (x .value) → r ≡ placeFits x
+  unfolding placeFits
+  place-absent e f = rw e f
+
+pub ruleset absents = (real-here, real-absent, place-here, place-absent)

@@ -1,0 +1,96 @@
+-- A record's image has 104 bytes and is taken as the record, for every record that a program can hold: no two of its stretches overlap. So no two
+-- records have one image. Assumes nothing.
+use mathlib.Core.Path.{_≡_, refl, sym, ap, _∙_}
+use mathlib.Core.Bool.{true, _&&_}
+use mathlib.Core.List.{List, [], _∷_, _++_, map}
+use Prim.Native.Nat.{ℕ, _≤_}
+use lib.Dec.{T}
+use lib.IntN.{ℤ}
+use lib.ListN.{length, getD}
+use Rattle.octets.specs.Choice.{either}
+use Rattle.record.specs.declared.Body.{Body}
+use Rattle.record.specs.declared.Message.{Message}
+use Rattle.record.specs.Record.{commandIn, bodyIn}
+use Rattle.layout.specs.Image.{Stretch, conLies, conRspLies, statusRspLies, packetLies, detLies, attPrpLies, ulDataLies, bodyLies, headLies, messageLies, laid, zeros, messageSize, messageImage}
+use Rattle.layout.specs.Taken.{markPlaces, number, signed, areMarks, bodiesAt, bodyAt, messageAt}
+use Rattle.layout.proofs.Taking.{past, marked-past}
+use Rattle.layout.proofs.Parts.{con-of, con-rsp-of, status-rsp-of, det-of, att-prp-of, ul-data-of}
+use Rattle.layout.proofs.Lying.{takenIn, marksIn, AllFit, apart, all-taken, length-laid}
+
+-- a body that the image tells apart: a bare one has none of the eight commands that have fields
+abbrev pub Own : Body → Type 0
+Own (Body.Con x) = Unit {0}
+Own (Body.ConRsp x) = Unit {0}
+Own (Body.StatusRsp x) = Unit {0}
+Own (Body.Det x) = Unit {0}
+Own (Body.DetRsp sign) = Unit {0}
+Own (Body.AttPrp x) = Unit {0}
+Own (Body.DetPrp eui) = Unit {0}
+Own (Body.UlData x) = Unit {0}
+Own (Body.Bare c) = 8 ≤ c
+
+-- a record that a program can hold: each value has the width of its stretch, which is that of its type
+pub record Held (m : Message) : Type 0 where
+  pub own : Own (m .body)
+  pub widths : AllFit (messageLies m)
+
+body-of : (d : List ℕ) (b : Body) → Own b → map (takenIn d) (bodyLies b) ≡ bodyLies b → bodyIn (bodiesAt d) (commandIn b) (commandIn b) ≡ b
+unfolding bodyIn bodyLies
+body-of d (Body.Con x) o e = ap Body.Con (con-of d x x e)
+body-of d (Body.ConRsp x) o e = ap Body.ConRsp (con-rsp-of d x x e)
+body-of d (Body.StatusRsp x) o e = ap Body.StatusRsp (status-rsp-of d x x e)
+body-of d (Body.Det x) o e = ap Body.Det (det-of d x x e)
+body-of d (Body.DetRsp sign) o e = cc
+body-of d (Body.AttPrp x) o e = ap Body.AttPrp (att-prp-of d x x e)
+body-of d (Body.DetPrp eui) o e = cc
+body-of d (Body.UlData x) o e = ap Body.UlData (ul-data-of d x x e)
+body-of d (Body.Bare c) o e = sym (past (bodiesAt d) c c o)
+
+-- the marks of a command are those of its stretches
+pub marks-are : (d : List ℕ) (b : Body) → Own b → areMarks d (getD markPlaces (commandIn b) []) ≡ marksIn d (bodyLies b)
+unfolding areMarks bodyLies conLies conRspLies statusRspLies packetLies detLies attPrpLies ulDataLies
+marks-are d (Body.Con x) o = refl
+marks-are d (Body.ConRsp x) o = refl
+marks-are d (Body.StatusRsp x) o = refl
+marks-are d (Body.Det x) o = refl
+marks-are d (Body.DetRsp sign) o = refl
+marks-are d (Body.AttPrp x) o = refl
+marks-are d (Body.DetPrp eui) o = refl
+marks-are d (Body.UlData x) o = refl
+marks-are d (Body.Bare c) o = sym (marked-past d c o)
+
+-- no two stretches overlap
+all-apart : (z : ℤ) (b : Body) → T (apart (headLies z (commandIn b) ++ bodyLies b) messageSize)
+unfolding bodyLies conLies conRspLies statusRspLies packetLies detLies attPrpLies ulDataLies
+all-apart z (Body.Con x) = tt
+all-apart z (Body.ConRsp x) = tt
+all-apart z (Body.StatusRsp x) = tt
+all-apart z (Body.Det x) = tt
+all-apart z (Body.DetRsp sign) = tt
+all-apart z (Body.AttPrp x) = tt
+all-apart z (Body.DetPrp eui) = tt
+all-apart z (Body.UlData x) = tt
+all-apart z (Body.Bare c) = tt
+
+pub image-size : (m : Message) → length (messageImage m) ≡ messageSize
+unfolding messageImage zeros
+image-size m = length-laid (messageLies m) zeros
+
+-- the record of what is taken
+record-of : (d : List ℕ) (m : Message) → Own (m .body) → map (takenIn d) (messageLies m) ≡ messageLies m → marksIn d (messageLies m) ≡ true → messageAt d ≡ m
+unfolding messageAt bodyAt
+record-of d m o e f =
+    let z : signed d 8 0 ≡ m .«op_id» = cc in
+    let c : number d 1 8 ≡ commandIn (m .body) = cc in
+    let r : map (takenIn d) (bodyLies (m .body)) ≡ bodyLies (m .body) = cc in
+    rw (z, c, marks-are d (m .body) o, f) (λ i. record { «op_id» = m .«op_id»; body = body-of d (m .body) o r i })
+
+pub message-back : (m : Message) → Held m → messageAt (messageImage m) ≡ m
+unfolding messageImage zeros
+message-back m h =
+    let r = all-taken messageSize (messageLies m) zeros refl (all-apart (m .«op_id») (m .body)) (h .widths) in
+    record-of (laid (messageLies m) zeros) m (h .own) (r .0) (r .1)
+
+-- no two records have one image
+pub one-record : (m n : Message) → Held m → Held n → messageImage m ≡ messageImage n → m ≡ n
+one-record m n g h e = sym (message-back m g) ∙ ap messageAt e ∙ message-back n h

@@ -1,0 +1,21 @@
+-- `put_det` meets its contract, by the laws of proofs/. Assumes nothing.
+use Rattle.layout.specs.Image.{laid, packetLies, detLies}
+use borrow.Author.Needs.{needs}
+use Rattle.layout.proofs.put.put_det.Statement.{statement}
+use Rattle.layout.proofs.put.put_det.Tie as tie
+
+put-packet-requires : tie.Need-put-packet-requires
+put-packet-requires c κs = search needs
+
+put-four-requires : tie.Need-put-four-requires
+put-four-requires c κs = search needs
+
+same-length : tie.Need-same-length
+same-length c = cc
+
+returns : tie.Need-returns
+unfolding laid packetLies detLies
+returns c = cc
+
+pub put-det-spec : {M : Type 1} → statement M
+put-det-spec = tie.close (tie.spec put-packet-requires put-four-requires same-length returns)

@@ -1,0 +1,292 @@
+// The fields of each command from where they lie. Any bytes may be handed in.
+use crate::leaf::real_from;
+use crate::leaf::signed32;
+use field::Position;
+use message::MaybeId;
+use message::MaybePosition;
+use message::MaybeReal;
+use message::MaybeVersion;
+use message::MaybeWord;
+use message::Signal;
+use octets::big_at;
+use octets::little_at;
+use octets::signed_of;
+use record::AttPrp;
+use record::Body;
+use record::Con;
+use record::ConRsp;
+use record::Det;
+use record::Packet;
+use record::Sixteen;
+use record::StatusRsp;
+use record::UlData;
+ghost use mathlib.Core.Path.{_≡_};
+ghost use mathlib.Core.List.{[]};
+ghost use Prim.Native.Nat.{_+_, _≤_};
+ghost use lib.ListN.{getD};
+ghost use Rattle.record.specs.Record.{bodyIn};
+ghost use Rattle.layout.specs.Taken.{places, markPlaces, number, high, signed, real, flag, areMarks, sixteenAt, positionAt, versionAt, conAt, conRspAt, statusRspAt, signalAt, packetAt, detAt, attPrpAt, ulDataAt, bodiesAt};
+
+pub fn byte(d: &[u8], at: usize) -> u8
+    ensures { λ r. ⌜ r ≡ number (now (d .entry)) 1 at ⌝ }
+{
+    little_at(d, at, 1) as u8
+}
+
+fn is_set(d: &[u8], at: usize) -> bool
+    ensures { λ r. ⌜ r ≡ flag (now (d .entry)) at ⌝ }
+{
+    byte(d, at) != 0
+}
+
+fn short(d: &[u8], at: usize) -> u16
+    ensures { λ r. ⌜ r ≡ number (now (d .entry)) 2 at ⌝ }
+{
+    little_at(d, at, 2) as u16
+}
+
+fn count(d: &[u8], at: usize) -> u32
+    ensures { λ r. ⌜ r ≡ number (now (d .entry)) 4 at ⌝ }
+{
+    little_at(d, at, 4) as u32
+}
+
+fn word(d: &[u8], at: usize) -> u64
+    ensures { λ r. ⌜ r ≡ number (now (d .entry)) 8 at ⌝ }
+{
+    little_at(d, at, 8)
+}
+
+fn four(d: &[u8], at: usize) -> u32
+    ensures { λ r. ⌜ r ≡ high (now (d .entry)) 4 at ⌝ }
+{
+    big_at(d, at, 4) as u32
+}
+
+pub fn id(d: &[u8], at: usize) -> i64
+    ensures { λ r. ⌜ r ≡ signed (now (d .entry)) 8 at ⌝ }
+{
+    signed_of(word(d, at))
+}
+
+fn code(d: &[u8], at: usize) -> i32
+    ensures { λ r. ⌜ r ≡ signed (now (d .entry)) 4 at ⌝ }
+{
+    signed32(count(d, at))
+}
+
+fn figure(d: &[u8], at: usize) -> f64
+    ensures { λ r. ⌜ r ≡ real (now (d .entry)) at ⌝ }
+{
+    real_from(word(d, at))
+}
+
+fn sixteen(d: &[u8], at: usize) -> Sixteen
+    requires { ⌜ at ≤ 88 ⌝ }
+    ensures { λ r. ⌜ r ≡ sixteenAt (now (d .entry)) at ⌝ }
+{
+    Sixteen {
+        high: big_at(d, at, 8),
+        low: big_at(d, at + 8, 8),
+    }
+}
+
+fn position(d: &[u8]) -> Position
+    ensures { λ r. ⌜ r ≡ positionAt (now (d .entry)) 40 ⌝ }
+{
+    Position {
+        latitude: figure(d, 40),
+        longitude: figure(d, 48),
+        altitude: figure(d, 56),
+    }
+}
+
+fn version(d: &[u8], at: usize) -> MaybeVersion
+    requires { ⌜ at ≤ 97 ⌝ }
+    ensures { λ r. ⌜ r ≡ versionAt (now (d .entry)) at ⌝ }
+{
+    MaybeVersion {
+        here: is_set(d, at + 6),
+        major: short(d, at),
+        minor: short(d, at + 2),
+        patch: short(d, at + 4),
+    }
+}
+
+fn con_in(d: &[u8]) -> Con
+    ensures { λ r. ⌜ r ≡ conAt (now (d .entry)) ⌝ }
+{
+    Con {
+        version: version(d, 80),
+        bs_eui: word(d, 16),
+        bidi: is_set(d, 87),
+        geo_location: MaybePosition {
+            here: is_set(d, 88),
+            value: position(d),
+        },
+        sn_bs_uuid: sixteen(d, 64),
+        sn_bs_op_id: MaybeId {
+            here: is_set(d, 89),
+            value: id(d, 24),
+        },
+        sn_sc_op_id: MaybeId {
+            here: is_set(d, 90),
+            value: id(d, 32),
+        },
+    }
+}
+
+fn con_rsp_in(d: &[u8]) -> ConRsp
+    ensures { λ r. ⌜ r ≡ conRspAt (now (d .entry)) ⌝ }
+{
+    ConRsp {
+        version: version(d, 40),
+        sc_eui: word(d, 16),
+        sn_resume: is_set(d, 47),
+        sn_sc_uuid: sixteen(d, 24),
+    }
+}
+
+fn status_rsp_in(d: &[u8]) -> StatusRsp
+    ensures { λ r. ⌜ r ≡ statusRspAt (now (d .entry)) ⌝ }
+{
+    StatusRsp {
+        code: code(d, 88),
+        message_len: byte(d, 92),
+        time: word(d, 16),
+        duty_cycle: figure(d, 32),
+        geo_location: MaybePosition {
+            here: is_set(d, 93),
+            value: position(d),
+        },
+        uptime: MaybeWord {
+            here: is_set(d, 94),
+            value: word(d, 24),
+        },
+        temp: MaybeReal {
+            here: is_set(d, 95),
+            value: figure(d, 64),
+        },
+        cpu_load: MaybeReal {
+            here: is_set(d, 96),
+            value: figure(d, 72),
+        },
+        mem_load: MaybeReal {
+            here: is_set(d, 97),
+            value: figure(d, 80),
+        },
+    }
+}
+
+fn signal_in(d: &[u8]) -> Signal
+    ensures { λ r. ⌜ r ≡ signalAt (now (d .entry)) ⌝ }
+{
+    Signal {
+        snr: figure(d, 40),
+        rssi: figure(d, 48),
+        eq_snr: figure(d, 56),
+        has_eq_snr: is_set(d, 86),
+    }
+}
+
+fn packet_in(d: &[u8]) -> Packet
+    ensures { λ r. ⌜ r ≡ packetAt (now (d .entry)) ⌝ }
+{
+    Packet {
+        ep_eui: word(d, 16),
+        rx_time: word(d, 24),
+        rx_duration: MaybeWord {
+            here: is_set(d, 85),
+            value: word(d, 32),
+        },
+        packet_cnt: count(d, 80),
+        signal: signal_in(d),
+        profile_len: byte(d, 84),
+        profile: sixteen(d, 64),
+    }
+}
+
+fn det_in(d: &[u8]) -> Det
+    ensures { λ r. ⌜ r ≡ detAt (now (d .entry)) ⌝ }
+{
+    Det {
+        packet: packet_in(d),
+        sign: four(d, 88),
+    }
+}
+
+fn att_prp_in(d: &[u8]) -> AttPrp
+    ensures { λ r. ⌜ r ≡ attPrpAt (now (d .entry)) ⌝ }
+{
+    AttPrp {
+        ep_eui: word(d, 16),
+        bidi: is_set(d, 46),
+        nwk_sn_key: sixteen(d, 24),
+        sh_addr: short(d, 44),
+        last_packet_cnt: count(d, 40),
+        dual_chan: is_set(d, 47),
+        repetition: is_set(d, 48),
+        wide_carr_off: is_set(d, 49),
+        long_blk_dist: is_set(d, 50),
+    }
+}
+
+fn ul_data_in(d: &[u8]) -> UlData
+    ensures { λ r. ⌜ r ≡ ulDataAt (now (d .entry)) ⌝ }
+{
+    UlData {
+        packet: packet_in(d),
+        user_len: byte(d, 88),
+        format: byte(d, 89),
+        dl_open: is_set(d, 90),
+        response_exp: is_set(d, 91),
+        dl_ack: is_set(d, 92),
+    }
+}
+
+// Each of n bytes is 0 or 1.
+fn are_marks(d: &[u8], at: usize, n: usize) -> bool
+    requires { ⌜ at + n ≤ 104 ⌝ }
+    ensures { λ r. ⌜ r ≡ areMarks (now (d .entry)) (places at n) ⌝ }
+{
+    let mut ok = true;
+    let mut i: usize = 0;
+    while i < n {
+        ok = ok & (byte(d, at + i) < 2);
+        i += 1;
+    }
+    ok
+}
+
+// The marks of a command are 0 or 1.
+pub fn is_marked(d: &[u8], c: u8) -> bool
+    ensures { λ r. ⌜ r ≡ areMarks (now (d .entry)) (getD markPlaces c []) ⌝ }
+{
+    match c {
+        0 => are_marks(d, 86, 5),
+        1 => are_marks(d, 46, 2),
+        2 => are_marks(d, 93, 5),
+        3 => are_marks(d, 85, 2),
+        4 => true,
+        5 => are_marks(d, 46, 5),
+        6 => true,
+        7 => are_marks(d, 85, 2) & are_marks(d, 90, 3),
+        8..=255 => true,
+    }
+}
+
+pub fn body_in(d: &[u8], c: u8) -> Body
+    ensures { λ r. ⌜ r ≡ bodyIn (bodiesAt (now (d .entry))) c c ⌝ }
+{
+    match c {
+        0 => Body::Con(con_in(d)),
+        1 => Body::ConRsp(con_rsp_in(d)),
+        2 => Body::StatusRsp(status_rsp_in(d)),
+        3 => Body::Det(det_in(d)),
+        4 => Body::DetRsp(four(d, 16)),
+        5 => Body::AttPrp(att_prp_in(d)),
+        6 => Body::DetPrp(word(d, 16)),
+        7 => Body::UlData(ul_data_in(d)),
+        8..=255 => Body::Bare(c),
+    }
+}

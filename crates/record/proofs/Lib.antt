@@ -1,0 +1,15 @@
+pub mod Answered
+pub mod Commands
+pub mod Listed
+pub mod Faultless
+pub mod Payloads
+pub mod Typed
+pub mod Packed
+pub mod Parts
+pub mod Bodies
+pub mod RoundTrip
+pub mod Made
+pub mod Built
+pub mod Read
+pub mod Refusals
+pub mod Answers

@@ -1,0 +1,8 @@
+pub mod Record
+pub mod Says
+pub mod Fits
+pub mod Written
+pub mod Reading
+pub mod Meant
+pub mod Places
+pub mod Lent

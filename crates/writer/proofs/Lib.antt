@@ -1,0 +1,6 @@
+pub mod Putting
+pub mod Bodies
+pub mod Fields
+pub mod Payloads
+pub mod Framing
+pub mod Settled

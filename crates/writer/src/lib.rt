@@ -1,0 +1,81 @@
+// Writing a record as a whole frame.
+mod connect;
+mod head;
+mod pair;
+mod payload;
+mod propagate;
+mod received;
+mod status;
+
+use payload::payload;
+use record::Message;
+ghost use mathlib.Core.Path.{_≡_};
+ghost use mathlib.Core.Bool.{true};
+ghost use Prim.Native.Nat.{_≤_};
+ghost use Rattle.record.specs.Fits.{fits};
+ghost use Rattle.record.specs.Written.{frameFor};
+ghost use Rattle.writer.specs.Parts.{withHead};
+ghost use Rattle.writer.specs.Write.{Sent, sent, framed, written};
+
+// A frame and its length, or document 01's refusal 15 or 20.
+pub enum Written {
+    Whole(usize),
+    Refused(u8),
+}
+
+// A record with the bytes d that are lent beside it, as a whole frame at the start of the room; the rest of the room stays. A record outside its
+// ranges is refused with 15, then a room shorter than the frame with 20, and the room is as it was. Any contents may be handed in.
+pub fn write(m: Message, d: &[u8], room: &mut [u8]) -> Written
+    ensures { λ r. ⌜ _≡_ {A = Sent} (sent r (now (room .exit))) (written m (now (d .entry)) (now (room .entry))) ⌝ }
+{
+    if faults::fault(m, d) != 0 {
+        return Written::Refused(15);
+    }
+    put(m, d, room)
+}
+
+// A record that is known to fit, as a whole frame at the start of the room; 20 where the room is shorter. A room of 1,012 bytes has place for any
+// frame: 12 bytes and a payload of at most 1,000.
+pub fn put(m: Message, d: &[u8], room: &mut [u8]) -> Written
+    requires { ⌜ true ≡ fits m (now d) ⌝ }
+    ensures { λ r. ⌜ _≡_ {A = Sent} (sent r (now (room .exit))) (framed (frameFor m (now (d .entry))) (now (room .entry))) ⌝ }
+{
+    if room.len() < 1012 {
+        return put_short(m, d, room);
+    }
+    let end = payload(room, 12, m, d);
+    frame(room, end);
+    Written::Whole(end)
+}
+
+// In a room that may be too short: the frame is made elsewhere first.
+fn put_short(m: Message, d: &[u8], room: &mut [u8]) -> Written
+    requires { ⌜ true ≡ fits m (now d) ⌝ }
+    ensures { λ r. ⌜ _≡_ {A = Sent} (sent r (now (room .exit))) (framed (frameFor m (now (d .entry))) (now (room .entry))) ⌝ }
+{
+    let mut whole = [0u8; 1012];
+    let end = payload(&mut whole, 12, m, d);
+    frame(&mut whole, end);
+    deliver(&whole[..end], room)
+}
+
+// A frame that is made, where it has place.
+fn deliver(made: &[u8], room: &mut [u8]) -> Written
+    ensures { λ r. ⌜ _≡_ {A = Sent} (sent r (now (room .exit))) (framed (now (made .entry)) (now (room .entry))) ⌝ }
+{
+    let size = made.len();
+    if room.len() < size {
+        return Written::Refused(20);
+    }
+    forms::put_run(room, 0, made);
+    Written::Whole(size)
+}
+
+// The 12 bytes in front of a payload that ends at a place.
+fn frame(room: &mut [u8], end: usize)
+    requires { ⌜ 12 ≤ end ⌝ }
+    ensures { λ _. ⌜ now (room .exit) ≡ withHead (now (room .entry)) end ⌝ }
+{
+    octets::put_big(room, 0, 8, 0x4D49_4F54_5942_3031);
+    octets::put_little(room, 8, 4, (end - 12) as u64);
+}
