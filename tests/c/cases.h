@@ -8,6 +8,7 @@ void commands(void);
 void writes(void);
 void marks(void);
 void data_lengths(void);
+void chained(void);
 void steps(void);
 void refused_steps(void);
 void changes(void);

@@ -12,6 +12,7 @@ static void all_groups(void)
     writes();
     marks();
     data_lengths();
+    chained();
     steps();
     refused_steps();
     changes();

@@ -5,15 +5,13 @@ use native.Mathlib.Omega.{arith}
 use borrow.Author.Tests.{le-leb, lt-leb}
 use Rattle.element.specs.declared.Walked.{Walked}
 use Rattle.element.specs.declared.Walked.the-variants as walked
-use Rattle.frame.specs.declared.Framed.{Framed}
-use Rattle.frame.specs.declared.Framed.the-variants.{Whole, Refused}
-use Rattle.meters.specs.declared.Found.{Found}
+use Rattle.frame.specs.declared.Framed.{Framed, the-variants.Whole, the-variants.Refused}
+use Rattle.meters.specs.declared.{Found.Found, Credit.Credit}
 use Rattle.meters.specs.declared.Found.the-variants as found
-use Rattle.meters.specs.declared.Credit.{Credit}
 use Rattle.meters.specs.declared.Credit.the-variants as credit
-use Rattle.meters.specs.Answers.{refusalOf, rowOf, creditRefusalOf, creditRowOf, hearersOf}
+use Rattle.meters.specs.Answers.{tableRefusal, rowOf, creditRefusalOf, creditRowOf, hearersOf}
 use Rattle.meters.specs.Columns.{Columns, Done, toldPlace, toldCredit}
-use Rattle.chozukpima.specs.Packed.{most, shown, packed, frameAnswer, formAnswer, creditKind, creditValue, Told, told, placed, credited}
+use Rattle.chozukpima.specs.Packed.{most, shown, packed, frameAnswer, formAnswer, creditKind, creditValue, Tabled, tabled, placed, creditTabled}
 
 pub shown-whole : (v : ℕ) → v ≤ most → v ≡ shown v
 unfolding shown
@@ -42,11 +40,11 @@ module _ (w : Walked) (r k : ℕ) where
   form-refused p e q = let z : p ≡ 0 + p = omega arith in q ∙ ap (packed k 0) z ∙ ap formAnswer (sym e)
 
 module _ (f : Found) (r k : ℕ) where
-  pub place-found : f ≡ found.At k → r ≡ packed 0 0 k → r ≡ packed (refusalOf f) 0 (rowOf f)
-  place-found e p = p ∙ ap (λ x. packed (refusalOf x) 0 (rowOf x)) (sym e)
+  pub place-found : f ≡ found.At k → r ≡ packed 0 0 k → r ≡ packed (tableRefusal f) 0 (rowOf f)
+  place-found e p = p ∙ ap (λ x. packed (tableRefusal x) 0 (rowOf x)) (sym e)
 
-  pub place-refused : f ≡ found.Refused k → r ≡ packed k 0 0 → r ≡ packed (refusalOf f) 0 (rowOf f)
-  place-refused e p = p ∙ ap (λ x. packed (refusalOf x) 0 (rowOf x)) (sym e)
+  pub place-refused : f ≡ found.Refused k → r ≡ packed k 0 0 → r ≡ packed (tableRefusal f) 0 (rowOf f)
+  place-refused e p = p ∙ ap (λ x. packed (tableRefusal x) 0 (rowOf x)) (sym e)
 
 -- a credit's value: a row past 40 bits is a value past 48
 module _ (k i : ℕ) where
@@ -78,10 +76,10 @@ module _ (c : Credit) (r k : ℕ) where
   credit-refused e p = p ∙ ap packedCredit (sym e)
 
 -- the answer and the columns afterwards
-pub found-told : (f : Found) (r : ℕ) (c : Columns) (d : Done Found) → r ≡ packed (refusalOf f) 0 (rowOf f) → toldPlace f c ≡ d → _≡_ {A = Told} (told r c) (placed d)
-found-told f r c d e p = ap (λ x. told x c) e ∙ ap placed p
+pub found-told : (f : Found) (r : ℕ) (c : Columns) (d : Done Found) → r ≡ packed (tableRefusal f) 0 (rowOf f) → toldPlace f c ≡ d → _≡_ {A = Tabled} (tabled r c) (placed d)
+found-told f r c d e p = ap (λ x. tabled x c) e ∙ ap placed p
 
-pub credit-told : (f : Credit) (r : ℕ) (c : Columns) (d : Done Credit) → r ≡ packedCredit f → toldCredit f c ≡ d → _≡_ {A = Told} (told r c) (credited d)
-credit-told f r c d e p = ap (λ x. told x c) e ∙ ap credited p
+pub credit-told : (f : Credit) (r : ℕ) (c : Columns) (d : Done Credit) → r ≡ packedCredit f → toldCredit f c ≡ d → _≡_ {A = Tabled} (tabled r c) (creditTabled d)
+credit-told f r c d e p = ap (λ x. tabled x c) e ∙ ap creditTabled p
 
 pub ruleset answers = (shown-whole, shown-most, packed-as, frame-whole, frame-refused, form-whole, form-refused, place-found, place-refused, value-whole, value-most, credit-new, credit-copy, credit-refused, found-told, credit-told)

@@ -1,3 +1,4 @@
 pub mod Packed
 pub mod Messages
 pub mod Sessions
+pub mod code

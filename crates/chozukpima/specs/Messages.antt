@@ -1,28 +1,25 @@
 -- What the calls on messages answer, and what the lent bytes hold afterwards.
-use mathlib.Core.Path.{_≡_}
+use mathlib.Core.{Path._≡_, Bool.true, List.List}
 use Prim.Native.Nat.{ℕ}
-use mathlib.Core.List.{List}
-use lib.Dec.{eqb}
-use lib.ListN.{length}
+use lib.{Dec.eqb, ListN.length}
 use Rattle.octets.specs.Choice.{either}
 use Rattle.record.specs.declared.Told.{Told}
-use Rattle.record.specs.Meant.{Answer, Meant}
-use Rattle.writer.specs.Write.{Sent, written, refusalOf, lengthOf}
-use Rattle.layout.specs.Image.{messageSize, messageImage}
-use Rattle.layout.specs.Taken.{messageAt}
-use Rattle.chozukpima.specs.Packed.{packed, refusedWith}
+use Rattle.record.specs.{Fits.fits, Meant.Answered, Meant.Meant}
+use Rattle.writer.specs.Write.{Sent, written, writeRefusal, lengthOf}
+use Rattle.layout.specs.{Image.messageSize, Image.messageImage, Taken.messageAt}
+use Rattle.chozukpima.specs.Packed.{packed, refusedWith, answerRefusal}
 
 -- an answer, and the bytes that the call may set afterwards: a message's, or the room's
-pub record Put : Type 0 where
+pub record Filled : Type 0 where
   pub answer : ℕ
   pub bytes : List ℕ
 
-abbrev pub put : ℕ → List ℕ → Put
-put n d = record { answer = n; bytes = d }
+abbrev pub filled : ℕ → List ℕ → Filled
+filled n d = record { answer = n; bytes = d }
 
 -- the count of elements and the record's image; or the refusal with its place, and the message as it was
-unfoldable pub toldInto : Told → List ℕ → Put
-toldInto t m = either (eqb (t .refusal) 0) (λ _. put (packed 0 0 (t .count)) (messageImage (t .message))) (λ _. put (packed (t .refusal) 0 (t .place)) m)
+unfoldable pub toldInto : Told → List ℕ → Filled
+toldInto t m = either (eqb (t .refusal) 0) (λ _. filled (packed 0 0 (t .count)) (messageImage (t .message))) (λ _. filled (packed (t .refusal) 0 (t .place)) m)
 
 -- an answer, and the message and its data afterwards
 pub record Got : Type 0 where
@@ -30,16 +27,21 @@ pub record Got : Type 0 where
   pub message : List ℕ
   pub lent : List ℕ
 
-abbrev pub got : Put → List ℕ → Got
+abbrev pub got : Filled → List ℕ → Got
 got p d = record { answer = p .answer; message = p .bytes; lent = d }
 
 -- a message of another length is 15 before all others; else what the payload means is answered
 pub record ReadInto (payload m d : List ℕ) (r : Got) : Type 0 where
-  pub long : (length m ≡ messageSize → ⊥) → r ≡ got (put (refusedWith 15) m) d
-  pub meant : length m ≡ messageSize → (a : Answer) → Meant payload d a → r ≡ got (toldInto (a .told) m) (a .lent)
+  pub long : (length m ≡ messageSize → ⊥) → r ≡ got (filled (refusedWith 15) m) d
+  pub meant : length m ≡ messageSize → (a : Answered) → Meant payload d a → r ≡ got (toldInto (a .told) m) (a .lent)
 
-abbrev pub putBy : Sent → Put
-putBy s = put (packed (refusalOf (s .answer)) 0 (lengthOf (s .answer))) (s .room)
+-- where nothing was refused: the message and the data that were left may be written
+pub record Kept (answer : ℕ) (m d : List ℕ) : Type 0 where
+  pub long : answerRefusal answer ≡ 0 → length m ≡ messageSize
+  pub fit : answerRefusal answer ≡ 0 → fits (messageAt m) d ≡ true
 
-unfoldable pub writeReturns : List ℕ → List ℕ → List ℕ → Put
-writeReturns m d room = either (eqb (length m) messageSize) (λ _. putBy (written (messageAt m) d room)) (λ _. put (refusedWith 15) room)
+abbrev pub putBy : Sent → Filled
+putBy s = filled (packed (writeRefusal (s .answer)) 0 (lengthOf (s .answer))) (s .room)
+
+unfoldable pub writeReturns : List ℕ → List ℕ → List ℕ → Filled
+writeReturns m d room = either (eqb (length m) messageSize) (λ _. putBy (written (messageAt m) d room)) (λ _. filled (refusedWith 15) room)

@@ -1,14 +1,13 @@
 -- One number answers every call: bits 0 to 7 the refusal (0: done), 8 to 15 what happened, 16 to 63 the value: a length, a count, a row, a credit's
 -- hearers and row, or the place for refusals 4 to 10. A value past 48 bits, which no memory has room for, shows as the greatest.
-use Prim.Native.Nat.{ℕ, _+_, _*_}
+use Prim.Native.Nat.{ℕ, _+_, _*_, _/_, _%_}
 use lib.Dec.{leb}
 use Rattle.octets.specs.Choice.{either}
 use Rattle.element.specs.declared.Walked.{Walked}
 use Rattle.element.specs.Form as Form
 use Rattle.frame.specs.declared.Framed.{Framed}
-use Rattle.frame.specs.Frame.{refusalOf, usedOf}
-use Rattle.meters.specs.declared.Found.{Found}
-use Rattle.meters.specs.declared.Credit.{Credit}
+use Rattle.frame.specs.Frame.{frameRefusal, usedOf}
+use Rattle.meters.specs.declared.{Found.Found, Credit.Credit}
 use Rattle.meters.specs.declared.Credit.the-variants as credit
 use Rattle.meters.specs.Columns.{Done, Columns}
 
@@ -21,16 +20,23 @@ shown value = either (leb value most) (λ _. value) (λ _. most)
 unfoldable pub packed : ℕ → ℕ → ℕ → ℕ
 packed refusal happened value = refusal + (256 * happened + 65536 * shown value)
 
+-- what the header's helpers take from an answer: the refusal and the value
+abbrev pub answerRefusal : ℕ → ℕ
+answerRefusal a = a % 256
+
+abbrev pub answerValue : ℕ → ℕ
+answerValue a = a / 65536
+
 -- a call that is refused without a place
 abbrev pub refusedWith : ℕ → ℕ
 refusedWith n = packed n 0 0
 
 abbrev pub frameAnswer : Framed → ℕ
-frameAnswer f = packed (refusalOf f) 0 (usedOf f)
+frameAnswer f = packed (frameRefusal f) 0 (usedOf f)
 
 -- the count of elements, or the place of a break: where one is said the other is 0
 abbrev pub formAnswer : Walked → ℕ
-formAnswer w = packed (Form.refusalOf w) 0 (Form.elementsOf w + Form.placeOf w)
+formAnswer w = packed (Form.walkRefusal w) 0 (Form.elementsOf w + Form.walkPlace w)
 
 abbrev pub placeAnswer : Done Found → ℕ
 placeAnswer d = packed (d .refusal) 0 (d .row)
@@ -49,15 +55,15 @@ abbrev pub creditAnswer : Done Credit → ℕ
 creditAnswer d = packed (d .refusal) (creditKind (d .answer)) (creditValue (d .hearers) (d .row))
 
 -- an answer, and the columns afterwards
-pub record Told : Type 0 where
+pub record Tabled : Type 0 where
   pub answer : ℕ
   pub columns : Columns
 
-abbrev pub placed : Done Found → Told
+abbrev pub placed : Done Found → Tabled
 placed d = record { answer = placeAnswer d; columns = d .columns }
 
-abbrev pub credited : Done Credit → Told
-credited d = record { answer = creditAnswer d; columns = d .columns }
+abbrev pub creditTabled : Done Credit → Tabled
+creditTabled d = record { answer = creditAnswer d; columns = d .columns }
 
-abbrev pub told : ℕ → Columns → Told
-told n c = record { answer = n; columns = c }
+abbrev pub tabled : ℕ → Columns → Tabled
+tabled n c = record { answer = n; columns = c }

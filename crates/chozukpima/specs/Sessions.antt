@@ -1,13 +1,11 @@
 -- What the calls on sessions answer, and what the lent bytes hold afterwards: a refused call changes nothing.
 use Prim.Native.Nat.{ℕ}
 use mathlib.Core.List.{List}
-use lib.Dec.{eqb}
-use lib.ListN.{length}
+use lib.{Dec.eqb, ListN.length}
 use Rattle.octets.specs.Choice.{either}
 use Rattle.steps.specs.declared.Answer.{Answer}
 use Rattle.steps.specs.Called.{Called, arriveOn, beginOn}
-use Rattle.layout.specs.Image.{messageSize}
-use Rattle.layout.specs.Taken.{messageAt}
+use Rattle.layout.specs.{Image.messageSize, Taken.messageAt}
 use Rattle.chozukpima.specs.Packed.{packed, refusedWith}
 
 abbrev pub stepAnswer : Answer → ℕ

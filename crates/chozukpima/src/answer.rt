@@ -3,12 +3,15 @@ ghost use mathlib.Core.Path.{_≡_};
 ghost use Prim.Native.Nat.{_≤_, _<_};
 ghost use Rattle.chozukpima.specs.Packed.{shown, packed, refusedWith};
 
+// The greatest value of 48 bits.
+pub const MOST_VALUE: usize = 0xFFFF_FFFF_FFFF;
+
 fn shown(value: usize) -> u64
     ensures { λ r. ⌜ r ≡ shown value ⌝ }
     ensures short { λ r. ⌜ r ≤ 0xFFFFFFFFFFFF ⌝ }
 {
-    if 0xFFFF_FFFF_FFFF < value {
-        return 0xFFFF_FFFF_FFFF;
+    if MOST_VALUE < value {
+        return MOST_VALUE as u64;
     }
     value as u64
 }

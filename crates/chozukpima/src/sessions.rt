@@ -1,12 +1,12 @@
 // Sessions where they lie: a message arrives, the centre begins an operation, the connection is lost.
 use crate::answer::pack;
 use crate::answer::refuse;
-use steps::Answer;
+use octets::refusals;
 ghost use mathlib.Core.Path.{_≡_};
 ghost use Rattle.steps.specs.Called.{lostAnswer, lostSession};
 ghost use Rattle.chozukpima.specs.Sessions.{Returned, returned, stepAnswer, arriveReturns, beginReturns};
 
-fn step_answer(a: Answer) -> u64
+fn step_answer(a: steps::Answer) -> u64
     ensures { λ r. ⌜ r ≡ stepAnswer a ⌝ }
 {
     pack(a.refusal, a.happened, a.length)
@@ -27,7 +27,7 @@ pub extern "C" fn chz_arrive(
         (arriveReturns (now (session .entry)) (now (message .entry)) (now (lent .entry)) «sc_eui» (now (uuid .entry)) (now (sign .entry)) (now (room .entry))) ⌝ }
 {
     if message.len() != layout::SIZE {
-        return refuse(15);
+        return refuse(refusals::INVALID);
     }
     let m = layout::message_in(message);
     step_answer(steps::arrive(session, m, lent, sc_eui, uuid, sign, room))
@@ -40,7 +40,7 @@ pub extern "C" fn chz_begin(session: &mut [u8], message: &[u8], lent: &[u8], roo
         (beginReturns (now (session .entry)) (now (message .entry)) (now (lent .entry)) (now (room .entry))) ⌝ }
 {
     if message.len() != layout::SIZE {
-        return refuse(15);
+        return refuse(refusals::INVALID);
     }
     let m = layout::message_in(message);
     step_answer(steps::begin(session, m, lent, room))

@@ -13,7 +13,7 @@ pub extern "C" fn chz_frame(bytes: &[u8]) -> u64
     ensures { λ r. ⌜ r ≡ frameAnswer (framedOf (now (bytes .entry))) ⌝ }
 {
     match frame::read(bytes) {
-        Framed::Whole(n) => pack(0, 0, 12 + n),
+        Framed::Whole(n) => pack(0, 0, frame::HEAD + n),
         Framed::Refused(k) => pack(k, 0, 0),
     }
 }

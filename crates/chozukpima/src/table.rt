@@ -1,14 +1,23 @@
 // The meter table's calls.
+use crate::answer::MOST_VALUE;
 use crate::answer::pack;
 use meters::Credit;
 use meters::Found;
 ghost use mathlib.Core.Path.{_≡_};
-ghost use Rattle.meters.specs.Answers.{refusalOf, rowOf, creditRefusalOf, creditRowOf, hearersOf};
+ghost use Rattle.meters.specs.Answers.{tableRefusal, rowOf, creditRefusalOf, creditRowOf, hearersOf};
 ghost use Rattle.meters.specs.Columns.{columns, findOn, enrolOn, withdrawOn, uplinkOn};
-ghost use Rattle.chozukpima.specs.Packed.{shown, packed, creditKind, creditValue, Told, told, placed, credited};
+ghost use Rattle.chozukpima.specs.Packed.{shown, packed, creditKind, creditValue, Tabled, tabled, placed, creditTabled};
+
+// What happened, where a packet is credited: no number of a session's step.
+const NEW_PACKET: u8 = 17;
+
+const COPY: u8 = 18;
+
+// Above it a row has no room beside the hearers.
+const MOST_ROW: usize = 0xFF_FFFF_FFFF;
 
 fn place_answer(f: Found) -> u64
-    ensures { λ r. ⌜ r ≡ packed (refusalOf f) 0 (rowOf f) ⌝ }
+    ensures { λ r. ⌜ r ≡ packed (tableRefusal f) 0 (rowOf f) ⌝ }
 {
     match f {
         Found::At(i) => pack(0, 0, i),
@@ -20,8 +29,8 @@ fn place_answer(f: Found) -> u64
 fn credit_value(hearers: u32, row: usize) -> usize
     ensures { λ r. ⌜ shown r ≡ shown (creditValue hearers row) ⌝ }
 {
-    if 0xFF_FFFF_FFFF < row {
-        return 0xFFFF_FFFF_FFFF;
+    if MOST_ROW < row {
+        return MOST_VALUE;
     }
     hearers as usize + 256 * row
 }
@@ -30,8 +39,8 @@ fn credit_answer(c: Credit) -> u64
     ensures { λ r. ⌜ r ≡ packed (creditRefusalOf c) (creditKind c) (creditValue (hearersOf c) (creditRowOf c)) ⌝ }
 {
     match c {
-        Credit::New(k, i) => pack(0, 17, credit_value(k, i)),
-        Credit::Copy(k, i) => pack(0, 18, credit_value(k, i)),
+        Credit::New(k, i) => pack(0, NEW_PACKET, credit_value(k, i)),
+        Credit::Copy(k, i) => pack(0, COPY, credit_value(k, i)),
         Credit::Refused(n) => pack(n, 0, 0),
     }
 }
@@ -46,7 +55,7 @@ pub extern "C" fn chz_find(
     heards: &[u64],
     meter: u64,
 ) -> u64
-    ensures { λ r. ⌜ _≡_ {A = Told} (told r (columns (now (used .entry)) (now (euis .entry)) (now (shorts .entry)) (now (lasts .entry)) (now (heards .entry))))
+    ensures { λ r. ⌜ _≡_ {A = Tabled} (tabled r (columns (now (used .entry)) (now (euis .entry)) (now (shorts .entry)) (now (lasts .entry)) (now (heards .entry))))
         (placed (findOn (columns (now (used .entry)) (now (euis .entry)) (now (shorts .entry)) (now (lasts .entry)) (now (heards .entry))) meter)) ⌝ }
 {
     place_answer(meters::find(used, euis, shorts, lasts, heards, meter))
@@ -64,7 +73,7 @@ pub extern "C" fn chz_enrol(
     short: u16,
     counter: u32,
 ) -> u64
-    ensures { λ r. ⌜ _≡_ {A = Told} (told r (columns (now (used .exit)) (now (euis .exit)) (now (shorts .exit)) (now (lasts .exit)) (now (heards .exit))))
+    ensures { λ r. ⌜ _≡_ {A = Tabled} (tabled r (columns (now (used .exit)) (now (euis .exit)) (now (shorts .exit)) (now (lasts .exit)) (now (heards .exit))))
         (placed (enrolOn (columns (now (used .entry)) (now (euis .entry)) (now (shorts .entry)) (now (lasts .entry)) (now (heards .entry))) meter short counter)) ⌝ }
 {
     place_answer(meters::enrol(used, euis, shorts, lasts, heards, meter, short, counter))
@@ -80,7 +89,7 @@ pub extern "C" fn chz_withdraw(
     heards: &[u64],
     meter: u64,
 ) -> u64
-    ensures { λ r. ⌜ _≡_ {A = Told} (told r (columns (now (used .exit)) (now (euis .entry)) (now (shorts .entry)) (now (lasts .entry)) (now (heards .entry))))
+    ensures { λ r. ⌜ _≡_ {A = Tabled} (tabled r (columns (now (used .exit)) (now (euis .entry)) (now (shorts .entry)) (now (lasts .entry)) (now (heards .entry))))
         (placed (withdrawOn (columns (now (used .entry)) (now (euis .entry)) (now (shorts .entry)) (now (lasts .entry)) (now (heards .entry))) meter)) ⌝ }
 {
     place_answer(meters::withdraw(used, euis, shorts, lasts, heards, meter))
@@ -98,8 +107,8 @@ pub extern "C" fn chz_uplink(
     counter: u32,
     station: u64,
 ) -> u64
-    ensures { λ r. ⌜ _≡_ {A = Told} (told r (columns (now (used .entry)) (now (euis .entry)) (now (shorts .entry)) (now (lasts .exit)) (now (heards .exit))))
-        (credited (uplinkOn (columns (now (used .entry)) (now (euis .entry)) (now (shorts .entry)) (now (lasts .entry)) (now (heards .entry))) meter counter station)) ⌝ }
+    ensures { λ r. ⌜ _≡_ {A = Tabled} (tabled r (columns (now (used .entry)) (now (euis .entry)) (now (shorts .entry)) (now (lasts .exit)) (now (heards .exit))))
+        (creditTabled (uplinkOn (columns (now (used .entry)) (now (euis .entry)) (now (shorts .entry)) (now (lasts .entry)) (now (heards .entry))) meter counter station)) ⌝ }
 {
     credit_answer(meters::uplink(used, euis, shorts, lasts, heards, meter, counter, station))
 }

@@ -1,16 +1,11 @@
 -- No break of form has the number 0. By induction over the levels left. Assumes nothing.
-use mathlib.Core.Path.{_≡_}
-use mathlib.Core.Bool.{Bool, true, false}
-use mathlib.Core.List.{List}
+use mathlib.Core.{Path._≡_, Bool.Bool, Bool.true, Bool.false, List.List}
 use Prim.Native.Nat.{ℕ, zero, suc, _+_, _<_}
 use native.Mathlib.Omega.{arith}
-use lib.Dec.{eqb, leb, ltb}
-use lib.ListN.{length, getD}
-use Rattle.octets.specs.Choice.{either}
-use Rattle.element.specs.declared.Span.{Span}
-use Rattle.element.specs.declared.Span.the-variants.{Cut, Ends, Holds}
-use Rattle.element.specs.declared.Step.{Step}
-use Rattle.element.specs.declared.Step.the-variants.{Next, Broken}
+use lib.{Dec.eqb, Dec.leb, Dec.ltb, ListN.length, ListN.getD}
+use Rattle.octets.specs.{Choice.either, Size.isSize}
+use Rattle.element.specs.declared.Span.{Span, the-variants.Cut, the-variants.Ends, the-variants.Holds}
+use Rattle.element.specs.declared.Step.{Step, the-variants.Next, the-variants.Broken}
 use Rattle.element.specs.declared.Walked.the-variants.{Whole, Refused}
 use Rattle.element.specs.Lead.{headOf}
 use Rattle.element.specs.Form.{Role, notOuter, notKey, breaks, faultOf, spanOf, then, times, itemBy, spanned, unless, elementOf, ended, walkOf}
@@ -81,9 +76,8 @@ ended-number len (Next a c) h n p e = go (ltb a len) e
 -- a break of form
 pub break-number : (s : List ℕ) (n p : ℕ) → walkOf s ≡ Refused n p → 0 < n
 unfolding walkOf
-break-number s n p e = go (eqb (length s) 0) (ltb 4096 (length s)) e
+break-number s n p e = go (isSize (length s)) e
   where
-    go : (a b : Bool) → either a (λ _. Refused 3 0) (λ _. either b (λ _. Refused 3 0) (λ _. ended (length s) (elementOf s 8 Role.outer 0 0))) ≡ Refused n p → 0 < n
-    go true b e = let i = refused-number e in omega arith
-    go false true e = let i = refused-number e in omega arith
-    go false false e = ended-number (length s) (elementOf s 8 Role.outer 0 0) (element-numbered s 8 Role.outer 0 0) n p e
+    go : (a : Bool) → either a (λ _. ended (length s) (elementOf s 8 Role.outer 0 0)) (λ _. Refused 3 0) ≡ Refused n p → 0 < n
+    go false e = let i = refused-number e in omega arith
+    go true e = ended-number (length s) (elementOf s 8 Role.outer 0 0) (element-numbered s 8 Role.outer 0 0) n p e

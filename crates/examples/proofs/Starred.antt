@@ -1,45 +1,30 @@
 -- Every starred example holds of the definitions: what is answered to a payload is meant, and what is answered is computed. Assumes nothing.
-use mathlib.Core.Path.{_≡_, refl, sym, subst, _∙_}
-use mathlib.Core.List.{List}
+use mathlib.Core.{Path._≡_, Path.refl, Path.subst, List.List}
 use Prim.Native.Nat.{ℕ, _≤_}
-use lib.Dec.{eqb, ltb}
-use lib.Ieee.{ofBits, toBits, fits as holds}
-use lib.ListN.{length}
+use lib.{Ieee.ofBits, Ieee.toBits, Ieee.fits as holds, ListN.length}
 use borrow.Author.Tests.{le-ltb}
-use Rattle.octets.specs.Choice.{either}
-use Rattle.octets.specs.Number.{bigAt}
-use Rattle.octets.specs.Bytes.{bigBytes, littleBytes, putAt}
+use Rattle.octets.specs.{Choice.either, Size.isSize, Number.bigAt, Bytes.bigBytes, Bytes.littleBytes, Bytes.putAt}
 use Rattle.frame.specs.Frame.{identifier}
-use Rattle.element.specs.Lead.{leadBytes, rowIn, headOf}
+use Rattle.element.specs.{Lead.leadBytes, Lead.rowIn, Lead.headOf, code.At.leafAt, Tree.bytesOf, Tree.pairCount}
 use Rattle.element.specs.Form.{Role, faultOf, bodyOf, spanOf, times, elementOf}
-use Rattle.element.specs.At.{leafAt}
-use Rattle.element.specs.Tree.{bytesOf, pairsOf}
 use Rattle.forms.specs.Shortest.{wholeTree, textHead, manyHead, textTree, mapTree}
-use Rattle.names.specs.Names.{commands, keys, nameAt, placeIn, slotOf, commandOf}
-use Rattle.field.specs.Kind.{kinds, kindIn}
-use Rattle.field.specs.Judge.{judge}
-use Rattle.field.specs.At.{shallowAt, cellAt}
-use Rattle.message.specs.Fields.{lists, listIn}
-use Rattle.message.specs.Reading.{gravest, lookIn, placeOf}
-use Rattle.message.specs.Notes.{keyAt, notesOf}
-use Rattle.message.specs.Cells.{cellsAt, placesOf, commandAt}
-use Rattle.saying.specs.Says.{partIn}
-use Rattle.saying.specs.Fits.{within}
-use Rattle.saying.specs.Written.{treeOf, pairsFrom, frameOf}
+use Rattle.names.specs.Names.{commands, nameAt, placeIn, commandOf}
+use Rattle.names.specs.code.Slots.{keys, slotOf}
+use Rattle.field.specs.{Judge.judge, code.At.shallowAt, code.At.cellAt}
+use Rattle.message.specs.{Fields.lists, Fields.listIn, Reading.gravest, Reading.lookIn, Reading.placeAmong, code.Notes.keyAt, code.Notes.notesOf}
+use Rattle.message.specs.{code.Cells.cellsAt, code.Cells.placesOf, code.Cells.commandAt}
+use Rattle.saying.specs.{Says.partIn, Fits.within, Written.treeOf, Written.pairsFrom, Written.frameOf}
 use Rattle.record.specs.Record.{bodyIn, messageOf, lentKeys, dataOf}
-use Rattle.record.specs.Says.{bodyRows, rowsOf}
-use Rattle.record.specs.Fits.{firstFault, faultIn}
-use Rattle.record.specs.Written.{payloadFor}
-use Rattle.record.specs.Meant.{Answer, refuses, lentSize, Meant}
-use Rattle.record.specs.Places.{readingAt, answerBy, answerAt}
+use Rattle.record.specs.{Says.bodySayings, Says.sayingsOf, Fits.firstFault, Fits.faultIn, Written.payloadFor}
+use Rattle.record.specs.{code.Places.readingAt, code.Places.answerBy, code.Places.answerAt}
+use Rattle.record.specs.Meant.{Answered, refuses, lentSize, Meant}
 use Rattle.record.proofs.Answered.{answer-meant}
 use Rattle.writer.specs.Write.{framed, written}
-use Rattle.examples.specs.Example.{AllHold}
-use Rattle.examples.specs.Starred.{starred}
+use Rattle.examples.specs.{Example.AllHold, Starred.starred}
 
 -- with enough bytes lent, the answer goes by the payload alone
-computed : (s d : List ℕ) (a : Answer)
-    → either (eqb (length s) 0) (λ _. refuses 3 0 d) (λ _. either (ltb 4096 (length s)) (λ _. refuses 3 0 d) (λ _. answerBy s d (elementOf s 8 Role.outer 0 0))) ≡ a
+computed : (s d : List ℕ) (a : Answered)
+    → either (isSize (length s)) (λ _. answerBy s d (elementOf s 8 Role.outer 0 0)) (λ _. refuses 3 0 d) ≡ a
     → lentSize ≤ length d → Meant s d a
 unfolding answerAt
 computed s d a e h =
@@ -47,7 +32,7 @@ computed s d a e h =
     subst (Meant s d) f (answer-meant s d)
 
 pub all-hold : AllHold starred
-unfolding readingAt placesOf notesOf keyAt cellsAt commandAt shallowAt cellAt elementOf times spanOf bodyOf faultOf headOf rowIn leadBytes bigAt bigBytes leafAt ofBits toBits bytesOf commands keys placeIn slotOf commandOf kinds kindIn judge lists listIn bodyIn messageOf lentKeys dataOf gravest lookIn placeOf littleBytes putAt identifier pairsOf wholeTree textHead manyHead textTree mapTree nameAt bodyRows rowsOf partIn within firstFault faultIn treeOf pairsFrom holds payloadFor frameOf framed written
+unfolding isSize readingAt placesOf notesOf keyAt cellsAt commandAt shallowAt cellAt elementOf times spanOf bodyOf faultOf headOf rowIn leadBytes bigAt bigBytes leafAt ofBits toBits bytesOf commands keys placeIn slotOf commandOf judge lists listIn bodyIn messageOf lentKeys dataOf gravest lookIn placeAmong littleBytes putAt identifier pairCount wholeTree textHead manyHead textTree mapTree nameAt bodySayings sayingsOf partIn within firstFault faultIn treeOf pairsFrom holds payloadFor frameOf framed written
 all-hold =
     let by : (s d : List ℕ) → lentSize ≤ length d → Meant s d _ = λ s d h. computed s d _ refl h in
     (refl, (by _, (by _, (by _, (by _, (by _, (by _, (by _, (by _, ((refl, refl), (by _, (by _, ((refl, refl), (refl, (refl, tt)))))))))))))))

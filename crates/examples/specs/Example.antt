@@ -1,17 +1,14 @@
 -- What an example says, one kind of row for each thing that examples speak of. No bytes are lent beside their records.
-use mathlib.Core.Path.{_≡_}
-use mathlib.Core.List.{List, [], _∷_}
+use mathlib.Core.{Path._≡_, List.List, List.[], List._∷_}
 use Prim.Native.Nat.{ℕ, _≤_}
-use lib.Ieee.{Float, binary64, toBits}
-use lib.ListN.{length, replicate}
+use lib.{Ieee.Float, Ieee.binary64, Ieee.toBits, ListN.length, ListN.replicate}
 use Rattle.octets.specs.Bytes.{bigBytes}
-use Rattle.element.specs.At.{leafAt}
+use Rattle.element.specs.code.At.{leafAt}
 use Rattle.number.specs.declared.Number.the-variants.{Real}
 use Rattle.number.specs.Number.{numberOf}
 use Rattle.record.specs.declared.Message.{Message}
-use Rattle.record.specs.Reading.{Reading}
+use Rattle.record.specs.{Reading.Reading, Written.payloadFor, Written.frameFor}
 use Rattle.record.specs.Meant.{answerOf, refuses, lentSize, Meant}
-use Rattle.record.specs.Written.{payloadFor, frameFor}
 use Rattle.writer.specs.declared.Written.{Written}
 use Rattle.writer.specs.Write.{written}
 

@@ -2,11 +2,8 @@
 use mathlib.Core.Bool.{true}
 use mathlib.Core.List.{List, [], _∷_, _++_}
 use Prim.Native.Nat.{ℕ, zero, suc}
-use lib.IntN.{pos}
-use lib.Ieee.{fin}
-use lib.ListN.{take, drop}
-use Rattle.record.specs.declared.Body.{Body}
-use Rattle.record.specs.declared.Message.{Message}
+use lib.{IntN.pos, Ieee.fin, ListN.take, ListN.drop}
+use Rattle.record.specs.declared.{Body.Body, Message.Message}
 use Rattle.writer.specs.declared.Written.the-variants as Written
 use Rattle.examples.specs.Example.{Example}
 use Rattle.examples.specs.Example.Example.{size, read, refused, real, takes, writing}

@@ -4,31 +4,20 @@ use mathlib.Core.Path.{_≡_, refl, sym, _∙_}
 use mathlib.Core.Bool.{Bool, true, not, _&&_, _||_, and-true}
 use mathlib.Core.List.{List, [], _∷_}
 use Prim.Native.Nat.{ℕ, zero, suc}
-use lib.Dec.{leb, ltb}
-use lib.IntN.{ℤ}
-use lib.ListN.{length, getD, drop}
+use lib.{Dec.leb, Dec.ltb, IntN.ℤ, ListN.length, ListN.getD, ListN.drop}
 use mir.Syntax.{w8}
 use mir.Val.{Val, Fits}
 use Rattle.octets.specs.Bytes.{IsBytes}
-use Rattle.field.specs.Kind.{kinds, kindIn}
-use Rattle.message.specs.Fields as fields
+use Rattle.field.specs.Kind.{Kind, unsigned64, unsigned8}
 use Rattle.message.specs.Fields.{Field, headed, lists, listIn, received}
-use Rattle.saying.specs.Says.{Part, Row, row, partIn}
-use Rattle.record.specs.declared.Packet.{Packet}
-use Rattle.record.specs.declared.Con.{Con}
-use Rattle.record.specs.declared.ConRsp.{ConRsp}
-use Rattle.record.specs.declared.StatusRsp.{StatusRsp}
-use Rattle.record.specs.declared.Det.{Det}
-use Rattle.record.specs.declared.AttPrp.{AttPrp}
-use Rattle.record.specs.declared.UlData.{UlData}
-use Rattle.record.specs.declared.Body.{Body}
-use Rattle.record.specs.declared.Message.{Message}
-use Rattle.record.specs.Says.{packetRows, bodyRows, rowsOf}
-use Rattle.record.specs.Fits.{firstFault, faultIn}
-use Rattle.faults.specs.Tests.{unless, orElse, conFault, conRspFault, statusFault, packetFault, ulDataFault, bareFault, bodyFault, AtOnce}
+use Rattle.saying.specs.Says.{Part, Saying, says, partIn}
+use Rattle.record.specs.declared.{Packet.Packet, Con.Con, ConRsp.ConRsp, StatusRsp.StatusRsp, Det.Det, AttPrp.AttPrp, UlData.UlData, Body.Body}
+use Rattle.record.specs.declared.{Message.Message}
+use Rattle.record.specs.{Says.packetSayings, Says.bodySayings, Says.sayingsOf, Fits.firstFault, Fits.faultIn}
+use Rattle.faults.specs.code.Tests.{faultUnless, orFault, conFault, conRspFault, statusFault, packetFault, ulDataFault, bareFault, bodyFault, AtOnce}
 use Rattle.faults.proofs.Typed as typed
 use Rattle.faults.proofs.Typed.{Typed, Signed, PacketSure, Sure}
-use Rattle.faults.proofs.Parts.{name-in, mark-in, real-in, maybe-sure, must-be, unless-in, figure-in, place-in, station-in, centre-in, four-in, sixteen-in, text-lent, bytes-lent}
+use Rattle.faults.proofs.Parts.{name-in, mark-in, real-in, maybe-sure, must-be, unless-in, figure-in, position-in, station-in, centre-in, four-in, sixteen-in, text-lent, bytes-lent}
 use Rattle.faults.proofs.Tails.{profile-in}
 use Rattle.faults.proofs.Steps.{pass, look, look-on, none-told, clear}
 
@@ -37,14 +26,14 @@ tested-in : (t fits : Bool) → fits ≡ true → ((t && true) && fits) ≡ t
 tested-in t fits e = rw e (and-true (t && true) ∙ and-true t)
 
 -- what is told of a packet, with other fields l behind it
-packet-is : (a b : Part) (p : Packet) (rs : List Row) (l : List Field) (behind : ℕ) → PacketSure p
-    → firstFault 10 l (partIn (row "command" a ∷ row "opId" b ∷ packetRows p rs)) ≡ behind
-    → firstFault 2 (received l) (partIn (row "command" a ∷ row "opId" b ∷ packetRows p rs)) ≡ orElse (packetFault p) behind
-unfolding partIn kinds kindIn orElse
+packet-is : (a b : Part) (p : Packet) (rs : List Saying) (l : List Field) (behind : ℕ) → PacketSure p
+    → firstFault 10 l (partIn (says "command" a ∷ says "opId" b ∷ packetSayings p rs)) ≡ behind
+    → firstFault 2 (received l) (partIn (says "command" a ∷ says "opId" b ∷ packetSayings p rs)) ≡ orFault (packetFault p) behind
+unfolding partIn orFault
 packet-is a b p rs l behind s q =
     pass _ _ _ _ _ (s .0)
     (pass _ _ _ _ _ (s .1)
-    (look-on _ _ _ _ _ _ _ (maybe-sure _ fields.unsigned64 (p .«rx_duration» .here) _ _ (s .2))
+    (look-on _ _ _ _ _ _ _ (maybe-sure _ unsigned64 (p .«rx_duration» .here) _ _ (s .2))
     (pass _ _ _ _ _ (s .3)
     (look-on _ _ _ _ _ _ _ (real-in (p .signal .snr))
     (look-on _ _ _ _ _ _ _ (real-in (p .signal .rssi))
@@ -56,32 +45,32 @@ faultFor z d b = faultIn (record { «op_id» = z; body = b }) d
 
 module _ (z : ℤ) (id : Signed 0x7FFFFFFFFFFFFFFF z) (d : List ℕ) where
   con-is : (x : Con) → Sure (Body.Con x) → faultFor z d (Body.Con x) ≡ conFault x
-  unfolding faultIn lists listIn partIn rowsOf bodyRows kinds kindIn
+  unfolding faultIn lists listIn partIn sayingsOf bodySayings
   con-is x s =
       pass _ _ _ _ _ (name-in _)
       (pass _ _ _ _ _ id
-      (look _ _ _ _ _ _ (must-be _ fields.version (x .version .here) _ _ (s .0))
+      (look _ _ _ _ _ _ (must-be _ Kind.versions (x .version .here) _ _ (s .0))
       (pass _ _ _ _ _ (s .1)
       (pass _ _ _ _ _ (mark-in (x .bidi))
-      (look _ _ _ _ _ _ (place-in _ (x .«geo_location»))
+      (look _ _ _ _ _ _ (position-in _ (x .«geo_location»))
       (pass _ _ _ _ _ (sixteen-in (x .«sn_bs_uuid»))
       (look _ _ _ _ _ _ (station-in _ (x .«sn_bs_op_id»))
       (look _ _ _ _ _ _ (centre-in _ (x .«sn_sc_op_id»))
       (clear _ _ _ tt)))))))))
 
   con-rsp-is : (x : ConRsp) → Sure (Body.ConRsp x) → faultFor z d (Body.ConRsp x) ≡ conRspFault x
-  unfolding faultIn lists listIn partIn rowsOf bodyRows kinds kindIn
+  unfolding faultIn lists listIn partIn sayingsOf bodySayings
   con-rsp-is x s =
       pass _ _ _ _ _ (name-in _)
       (pass _ _ _ _ _ id
-      (look _ _ _ _ _ _ (maybe-sure _ fields.version (x .version .here) _ _ (s .0))
+      (look _ _ _ _ _ _ (maybe-sure _ Kind.versions (x .version .here) _ _ (s .0))
       (pass _ _ _ _ _ (s .1)
       (pass _ _ _ _ _ (mark-in (x .«sn_resume»))
       (pass _ _ _ _ _ (sixteen-in (x .«sn_sc_uuid»))
       (clear _ _ _ tt))))))
 
   status-is : (x : StatusRsp) → Sure (Body.StatusRsp x) → faultFor z d (Body.StatusRsp x) ≡ statusFault x (length d)
-  unfolding faultIn lists listIn partIn rowsOf bodyRows kinds kindIn
+  unfolding faultIn lists listIn partIn sayingsOf bodySayings
   status-is x s =
       pass _ _ _ _ _ (name-in _)
       (pass _ _ _ _ _ id
@@ -89,19 +78,19 @@ module _ (z : ℤ) (id : Signed 0x7FFFFFFFFFFFFFFF z) (d : List ℕ) where
       (look _ _ _ _ _ _ (text-lent 64 (x .«message_len») d)
       (pass _ _ _ _ _ (s .1)
       (look _ _ _ _ _ _ (real-in (x .«duty_cycle»))
-      (look _ _ _ _ _ _ (place-in _ (x .«geo_location»))
-      (look _ _ _ _ _ _ (maybe-sure _ fields.unsigned64 (x .uptime .here) _ _ (s .2))
+      (look _ _ _ _ _ _ (position-in _ (x .«geo_location»))
+      (look _ _ _ _ _ _ (maybe-sure _ unsigned64 (x .uptime .here) _ _ (s .2))
       (look _ _ _ _ _ _ (figure-in _ (x .temp .here) (x .temp .value))
       (look _ _ _ _ _ _ (figure-in _ (x .«cpu_load» .here) (x .«cpu_load» .value))
       (look _ _ _ _ _ _ (figure-in _ (x .«mem_load» .here) (x .«mem_load» .value))
       (clear _ _ _ tt)))))))))))
 
   det-rsp-is : (sign : ℕ) → faultFor z d (Body.DetRsp sign) ≡ 0
-  unfolding faultIn lists listIn partIn rowsOf bodyRows kinds kindIn
+  unfolding faultIn lists listIn partIn sayingsOf bodySayings
   det-rsp-is sign = pass _ _ _ _ _ (name-in _) (pass _ _ _ _ _ id (pass _ _ _ _ _ (four-in sign) (clear _ _ _ tt)))
 
   att-prp-is : (x : AttPrp) → Sure (Body.AttPrp x) → faultFor z d (Body.AttPrp x) ≡ 0
-  unfolding faultIn lists listIn partIn rowsOf bodyRows kinds kindIn
+  unfolding faultIn lists listIn partIn sayingsOf bodySayings
   att-prp-is x s =
       pass _ _ _ _ _ (name-in _)
       (pass _ _ _ _ _ id
@@ -117,38 +106,38 @@ module _ (z : ℤ) (id : Signed 0x7FFFFFFFFFFFFFFF z) (d : List ℕ) where
       (clear _ _ _ tt)))))))))))
 
   det-prp-is : (eui : ℕ) → Sure (Body.DetPrp eui) → faultFor z d (Body.DetPrp eui) ≡ 0
-  unfolding faultIn lists listIn partIn rowsOf bodyRows kinds kindIn
+  unfolding faultIn lists listIn partIn sayingsOf bodySayings
   det-prp-is eui s = pass _ _ _ _ _ (name-in _) (pass _ _ _ _ _ id (pass _ _ _ _ _ s (clear _ _ _ tt)))
 
   det-is : (x : Det) → Sure (Body.Det x) → faultFor z d (Body.Det x) ≡ packetFault (x .packet)
-  unfolding faultIn lists listIn partIn rowsOf bodyRows kinds kindIn
+  unfolding faultIn lists listIn partIn sayingsOf bodySayings
   det-is x s =
       pass _ _ _ _ _ (name-in _)
       (pass _ _ _ _ _ id
-      (packet-is _ _ (x .packet) (drop 8 (bodyRows (Body.Det x) d)) _ 0 s (pass _ _ _ _ _ (four-in (x .sign)) (clear _ _ _ tt))))
+      (packet-is _ _ (x .packet) (drop 8 (bodySayings (Body.Det x) d)) _ 0 s (pass _ _ _ _ _ (four-in (x .sign)) (clear _ _ _ tt))))
       ∙ none-told (packetFault (x .packet))
 
   ul-data-is : IsBytes d → (x : UlData) → Sure (Body.UlData x) → faultFor z d (Body.UlData x) ≡ ulDataFault x (length d)
-  unfolding faultIn lists listIn partIn rowsOf bodyRows kinds kindIn
+  unfolding faultIn lists listIn partIn sayingsOf bodySayings
   ul-data-is b x s =
       pass _ _ _ _ _ (name-in _)
       (pass _ _ _ _ _ id
-      (packet-is _ _ (x .packet) (drop 8 (bodyRows (Body.UlData x) d)) _ _ (s .0)
+      (packet-is _ _ (x .packet) (drop 8 (bodySayings (Body.UlData x) d)) _ _ (s .0)
       (look _ _ _ _ _ _ (bytes-lent 245 (x .«user_len») d b)
-      (pass _ _ _ _ _ (unless-in _ fields.unsigned8 (x .format) (s .1))
+      (pass _ _ _ _ _ (unless-in _ unsigned8 (x .format) (s .1))
       (pass _ _ _ _ _ (mark-in (x .«dl_open»))
       (look _ _ _ _ _ _ (tested-in (not (x .«response_exp») || x .«dl_open») _ (mark-in (x .«response_exp»)))
       (pass _ _ _ _ _ (mark-in (x .«dl_ack»))
       (clear _ _ _ tt))))))))
 
   bare-more : (c : ℕ) → listIn lists c ≡ headed [] → faultFor z d (Body.Bare c) ≡ bareFault c
-  unfolding faultIn partIn rowsOf bodyRows kinds kindIn
+  unfolding faultIn partIn sayingsOf bodySayings
   bare-more c e =
       rw e (look _ _ _ _ _ _ (tested-in (leb 8 c && ltb c 21) _ (name-in _)) (pass _ _ _ _ _ id (clear _ _ _ tt)))
 
   -- the first eight commands have lists of their own, each with `command` first; the others have nothing more
   bare-is : (c : ℕ) → faultFor z d (Body.Bare c) ≡ bareFault c
-  unfolding faultIn firstFault unless lists listIn partIn rowsOf bodyRows
+  unfolding faultIn firstFault faultUnless lists listIn partIn sayingsOf bodySayings
   bare-is zero = refl
   bare-is (suc zero) = refl
   bare-is (suc (suc zero)) = refl

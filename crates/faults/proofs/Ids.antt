@@ -1,11 +1,8 @@
 -- A signed number in the code is its bits: they are zero exactly if it is, and the tests of its sign are those of its range. Assumes nothing.
-use mathlib.Core.Path.{_≡_, refl, sym}
-use mathlib.Core.Bool.{true, false}
+use mathlib.Core.{Path._≡_, Path.refl, Path.sym, Bool.true, Bool.false}
 use Prim.Native.Nat.{suc, _-_, _<_}
 use native.Mathlib.Omega.{arith}
-use lib.Dec.{eqb}
-use lib.IntN.{ℤ, pos, negsuc}
-use lib.Signed.{mag, leZ}
+use lib.{Dec.eqb, IntN.ℤ, IntN.pos, IntN.negsuc, Signed.mag, Signed.leZ}
 use mir.Syntax.{w64}
 use mir.Val.{toZ, ofZ}
 use mir.Facts.{toZ-ofZ}
@@ -13,7 +10,7 @@ use borrow.Author.Tests.{le-leb, lt-leb, ne-eqb}
 use Rattle.field.specs.Judge.{inRange}
 use Rattle.message.specs.declared.MaybeId.{MaybeId}
 use Rattle.saying.specs.Says.{isZero}
-use Rattle.faults.specs.Tests.{stationIdFits, centreIdFits}
+use Rattle.faults.specs.code.Tests.{stationIdFits, centreIdFits}
 
 zero-bits : (z : ℤ) → mag z < 0x8000000000000000 → eqb (ofZ w64 z) 0 ≡ isZero z
 zero-bits (pos n) h = refl

@@ -6,5 +6,4 @@ pub mod Parts
 pub mod Tails
 pub mod Steps
 pub mod Bodies
-pub mod Settled
 pub mod Longer

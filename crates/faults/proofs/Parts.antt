@@ -6,26 +6,19 @@ use Prim.Native.Nat.{ℕ, zero, suc, _/_, _%_, _^_}
 use native.Mathlib.Nat.{mod-lt}
 use native.Mathlib.Omega.{arith}
 use lib.Dec.{eqb, leb, ltb, lit<}
-use lib.IntN.{pos}
-use lib.Ieee.{Float}
-use lib.ListN.{length, take, length-append}
-use lib.Pow.{areBytes}
-use lib.Seq.{length-take-le}
+use lib.{IntN.pos, Ieee.Float, ListN.length, ListN.take, ListN.length-append, Pow.areBytes, Seq.length-take-le}
 use borrow.Author.Tests.{le-leb, leb-true, lt-ltb}
-use Rattle.octets.specs.Choice.{either}
-use Rattle.octets.specs.Bytes.{IsBytes, bigBytes}
+use Rattle.octets.specs.{Choice.either, Bytes.IsBytes, Bytes.bigBytes}
 use Rattle.octets.proofs.Digits.{length-big}
 use Rattle.octets.proofs.Ranges.{is-true, true-is, both-left, both-right}
-use Rattle.field.specs.Kind.{Kind, Value, kindOf, kinds, kindIn}
-use Rattle.message.specs.Fields as fields
+use Rattle.field.specs.Kind.{Kind, Value, stationId, centreId}
 use Rattle.message.specs.Fields.{Field}
-use Rattle.message.specs.declared.MaybeId.{MaybeId}
-use Rattle.message.specs.declared.MaybePosition.{MaybePosition}
-use Rattle.saying.specs.Says.{isZero, noBits, noPlace, placeValue, maybe, maybeReal, maybeId, maybePlace, unlessZero}
+use Rattle.message.specs.declared.{MaybeId.MaybeId, MaybePosition.MaybePosition}
+use Rattle.saying.specs.Says.{isZero, noBits, noPosition, positionValue, saidIf, realIf, idIf, positionIf, unlessZero}
 use Rattle.saying.specs.Fits.{within, isReal, fieldFits}
 use Rattle.record.specs.declared.Sixteen.{Sixteen}
 use Rattle.record.specs.Says.{sixteenBytes}
-use Rattle.faults.specs.Tests.{realFits, placeFits, stationIdFits, centreIdFits, lentFits}
+use Rattle.faults.specs.code.Tests.{realFits, positionFits, stationIdFits, centreIdFits, lentFits}
 
 pub name-in : (d : List ℕ) → within Kind.words (Value.string d) ≡ true
 unfolding within
@@ -40,44 +33,44 @@ unfolding within
 real-in x = refl
 
 -- a field that may be absent
-module _ (k : List ℕ) (kind : ℕ) where
+module _ (k : List ℕ) (kind : Kind) where
   abbrev field : Bool → Field
   field must = record { key = k; must = must; kind = kind }
 
-  maybe-in : (here : Bool) (v : Value) (none-in : Bool) → fieldFits (field false) (maybe here v none-in) ≡ either here (λ _. within (kindOf kind) v) (λ _. none-in)
+  maybe-in : (here : Bool) (v : Value) (none-in : Bool) → fieldFits (field false) (saidIf here v none-in) ≡ either here (λ _. within kind v) (λ _. none-in)
   maybe-in true v z = refl
   maybe-in false v z = and-true z
 
   -- where the type says that it is in its range
-  pub maybe-sure : (here : Bool) (v : Value) (none-in : Bool) → within (kindOf kind) v ≡ true → fieldFits (field false) (maybe here v none-in) ≡ (here || none-in)
+  pub maybe-sure : (here : Bool) (v : Value) (none-in : Bool) → within kind v ≡ true → fieldFits (field false) (saidIf here v none-in) ≡ (here || none-in)
   maybe-sure true v z e = e
   maybe-sure false v z e = and-true z
 
   -- where it must be here all the same
-  pub must-be : (here : Bool) (v : Value) (none-in : Bool) → within (kindOf kind) v ≡ true → fieldFits (field true) (maybe here v none-in) ≡ here
+  pub must-be : (here : Bool) (v : Value) (none-in : Bool) → within kind v ≡ true → fieldFits (field true) (saidIf here v none-in) ≡ here
   must-be true v z e = e
   must-be false v z e = and-false z
 
 -- a number that is here unless it is zero
-pub unless-in : (k : List ℕ) (kind n : ℕ) → within (kindOf kind) (Value.number (pos n)) ≡ true → fieldFits (record { key = k; must = false; kind = kind }) (unlessZero n) ≡ true
+pub unless-in : (k : List ℕ) (kind : Kind) (n : ℕ) → within kind (Value.number (pos n)) ≡ true → fieldFits (record { key = k; must = false; kind = kind }) (unlessZero n) ≡ true
 unless-in k kind n e = maybe-sure k kind (not (eqb n 0)) (Value.number (pos n)) (eqb n 0) e ∙ not-or-self (eqb n 0)
 
 module _ (k : List ℕ) where
-  pub figure-in : (here : Bool) (x : Float) → fieldFits (record { key = k; must = false; kind = fields.real }) (maybeReal here x) ≡ realFits here x
-  unfolding kinds kindIn within realFits
-  figure-in here x = maybe-in k fields.real here (Value.figure x) (noBits x)
+  pub figure-in : (here : Bool) (x : Float) → fieldFits (record { key = k; must = false; kind = Kind.reals }) (realIf here x) ≡ realFits here x
+  unfolding within realFits
+  figure-in here x = maybe-in k Kind.reals here (Value.figure x) (noBits x)
 
-  pub place-in : (w : MaybePosition) → fieldFits (record { key = k; must = false; kind = fields.place }) (maybePlace w) ≡ placeFits w
-  unfolding kinds kindIn within placeFits
-  place-in w = maybe-in k fields.place (w .here) (placeValue (w .value)) (noPlace (w .value))
+  pub position-in : (w : MaybePosition) → fieldFits (record { key = k; must = false; kind = Kind.positions }) (positionIf w) ≡ positionFits w
+  unfolding within positionFits
+  position-in w = maybe-in k Kind.positions (w .here) (positionValue (w .value)) (noPosition (w .value))
 
-  pub station-in : (w : MaybeId) → fieldFits (record { key = k; must = false; kind = fields.stationId }) (maybeId w) ≡ stationIdFits w
-  unfolding kinds kindIn within stationIdFits
-  station-in w = maybe-in k fields.stationId (w .here) (Value.number (w .value)) (isZero (w .value))
+  pub station-in : (w : MaybeId) → fieldFits (record { key = k; must = false; kind = stationId }) (idIf w) ≡ stationIdFits w
+  unfolding within stationIdFits
+  station-in w = maybe-in k stationId (w .here) (Value.number (w .value)) (isZero (w .value))
 
-  pub centre-in : (w : MaybeId) → fieldFits (record { key = k; must = false; kind = fields.centreId }) (maybeId w) ≡ centreIdFits w
-  unfolding kinds kindIn within centreIdFits
-  centre-in w = maybe-in k fields.centreId (w .here) (Value.number (w .value)) (isZero (w .value))
+  pub centre-in : (w : MaybeId) → fieldFits (record { key = k; must = false; kind = centreId }) (idIf w) ≡ centreIdFits w
+  unfolding within centreIdFits
+  centre-in w = maybe-in k centreId (w .here) (Value.number (w .value)) (isZero (w .value))
 
 -- the bytes of numbers
 big-bytes : (n x : ℕ) → areBytes (bigBytes n x) ≡ true

@@ -9,9 +9,8 @@ use borrow.Author.Tests.{eq-eqb}
 use Rattle.octets.proofs.Ranges.{true-false}
 use Rattle.number.specs.Number.{finite}
 use Rattle.message.specs.declared.MaybePosition.{MaybePosition}
-use Rattle.saying.specs.Says.{noBits, noPlace}
-use Rattle.saying.specs.Fits.{isReal, isPlace}
-use Rattle.faults.specs.Tests.{realFits, placeFits}
+use Rattle.saying.specs.{Says.noBits, Says.noPosition, Fits.isReal, Fits.isPosition}
+use Rattle.faults.specs.code.Tests.{realFits, positionFits}
 
 beq-self : (b : Bool) → Bool·beq b b ≡ true
 beq-self true = refl
@@ -59,12 +58,12 @@ module _ (here r : Bool) (x : Float) where
   real-absent e f = rw e f
 
 module _ (x : MaybePosition) (r : Bool) where
-  pub place-here : x .here ≡ true → r ≡ isPlace (x .value) → r ≡ placeFits x
-  unfolding placeFits
-  place-here e f = rw e f
+  pub position-here : x .here ≡ true → r ≡ isPosition (x .value) → r ≡ positionFits x
+  unfolding positionFits
+  position-here e f = rw e f
 
-  pub place-absent : x .here ≡ false → r ≡ noPlace (x .value) → r ≡ placeFits x
-  unfolding placeFits
-  place-absent e f = rw e f
+  pub position-absent : x .here ≡ false → r ≡ noPosition (x .value) → r ≡ positionFits x
+  unfolding positionFits
+  position-absent e f = rw e f
 
-pub ruleset absents = (real-here, real-absent, place-here, place-absent)
+pub ruleset absents = (real-here, real-absent, position-here, position-absent)

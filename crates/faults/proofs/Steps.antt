@@ -6,34 +6,33 @@ use Prim.Native.Nat.{ℕ, zero, suc}
 use lib.Dec.{T}
 use Rattle.octets.proofs.Ranges.{is-true, both-left, both-right}
 use Rattle.message.specs.Fields.{Field}
-use Rattle.saying.specs.Says.{Part}
-use Rattle.saying.specs.Fits.{fieldFits}
+use Rattle.saying.specs.{Says.Part, Fits.fieldFits}
 use Rattle.record.specs.Fits.{firstFault}
-use Rattle.faults.specs.Tests.{unless, orElse}
+use Rattle.faults.specs.code.Tests.{faultUnless, orFault}
 
 module _ (i : ℕ) (f : Field) (l : List Field) (part : List ℕ → Part) where
   pub pass : (s : ℕ) → fieldFits f (part (f .key)) ≡ true → firstFault (suc i) l part ≡ s → firstFault i (f ∷ l) part ≡ s
   unfolding firstFault
   pass s e q = rw e q
 
-  pub look : (t : Bool) (s : ℕ) → fieldFits f (part (f .key)) ≡ t → firstFault (suc i) l part ≡ s → firstFault i (f ∷ l) part ≡ unless t (suc i) s
-  unfolding firstFault unless
+  pub look : (t : Bool) (s : ℕ) → fieldFits f (part (f .key)) ≡ t → firstFault (suc i) l part ≡ s → firstFault i (f ∷ l) part ≡ faultUnless t (suc i) s
+  unfolding firstFault faultUnless
   look t s e q = rw (e, q)
 
 -- among fields of which others stand behind
-push : (t : Bool) (n told behind : ℕ) → unless t (suc n) (orElse told behind) ≡ orElse (unless t (suc n) told) behind
-unfolding unless orElse
+push : (t : Bool) (n told behind : ℕ) → faultUnless t (suc n) (orFault told behind) ≡ orFault (faultUnless t (suc n) told) behind
+unfolding faultUnless orFault
 push true n told behind = refl
 push false n told behind = refl
 
-pub none-told : (told : ℕ) → orElse told 0 ≡ told
-unfolding orElse
+pub none-told : (told : ℕ) → orFault told 0 ≡ told
+unfolding orFault
 none-told zero = refl
 none-told (suc n) = refl
 
 module _ (i : ℕ) (f : Field) (l : List Field) (part : List ℕ → Part) where
-  pub look-on : (t : Bool) (told behind : ℕ) → fieldFits f (part (f .key)) ≡ t → firstFault (suc i) l part ≡ orElse told behind → firstFault i (f ∷ l) part ≡ orElse (unless t (suc i) told) behind
-  look-on t told behind e q = look i f l part t (orElse told behind) e q ∙ push t i told behind
+  pub look-on : (t : Bool) (told behind : ℕ) → fieldFits f (part (f .key)) ≡ t → firstFault (suc i) l part ≡ orFault told behind → firstFault i (f ∷ l) part ≡ orFault (faultUnless t (suc i) told) behind
+  look-on t told behind e q = look i f l part t (orFault told behind) e q ∙ push t i told behind
 
 -- fields that all fit
 abbrev pub allFit : List Field → (List ℕ → Part) → Bool

@@ -1,27 +1,21 @@
 -- A profile's bytes behind the first n are zeros: of sixteen bytes as two numbers, nothing is left once the first n are shifted out.
 -- Each law once over the width; the last in the shape of a need of the code. Assumes nothing.
-use mathlib.Core.Path.{_≡_, refl, sym, ap, _∙_}
+use mathlib.Core.Path.{_≡_, refl, sym, _∙_}
 use mathlib.Core.Bool.{Bool, true, false, _&&_, and-true, and-assoc, and-comm}
 use mathlib.Core.List.{List, [], _∷_, _++_}
 use Prim.Native.Nat.{ℕ, zero, suc, _+_, _-_, _*_, _/_, _%_, _^_, _≤_, _<_}
-use native.Mathlib.Nat.{zero-add, suc-add, suc-mul, zero-mul, pow-suc, pow-succ', mod-one, mod-eq-of-lt, mul-mod-left, mul-div-cancel}
+use native.Mathlib.Nat.{zero-add, suc-add, suc-mul, zero-mul, pow-succ', mod-one, mod-eq-of-lt, mul-mod-left, mul-div-cancel}
 use native.Mathlib.Omega.{arith}
-use lib.Arith.{mod-mul}
-use lib.Dec.{eqb, leb, lit<}
+use lib.{Arith.mod-mul, Dec.eqb, Dec.leb, Dec.lit<, Pow.pow-add, Seq.length-take-le, Seq.drop-append-le, Seq.drop-append-add}
 use lib.ListN.{length, take, drop, drop-of-length-le}
-use lib.Pow.{pow-add}
-use lib.Seq.{length-take-le, drop-append-le, drop-append-add}
 use borrow.Author.Tests.{ne-eqb, le-leb, leb-true, leb-false}
 use Rattle.octets.specs.Bytes.{bigBytes}
-use Rattle.octets.proofs.Digits.{length-big}
-use Rattle.octets.proofs.Widths.{power-pos}
-use Rattle.field.specs.Kind.{Kind, Value, kinds, kindIn}
-use Rattle.message.specs.Fields as fields
-use Rattle.saying.specs.Says.{zeros, maybeString}
-use Rattle.saying.specs.Fits.{within, fieldFits}
+use Rattle.octets.proofs.{Digits.length-big, Widths.power-pos, Widths.bits-bytes}
+use Rattle.field.specs.Kind.{Kind, Value, profileText}
+use Rattle.saying.specs.{Says.areNulls, Says.stringIf, Fits.within, Fits.fieldFits}
 use Rattle.record.specs.declared.Sixteen.{Sixteen}
 use Rattle.record.specs.Says.{sixteenBytes}
-use Rattle.faults.specs.Tests.{tailFits}
+use Rattle.faults.specs.code.Tests.{tailFits}
 use Rattle.faults.proofs.Parts.{length-sixteen}
 
 -- what follows from the first of two tests need not be tested
@@ -35,7 +29,7 @@ both-zero zero w r h = rw (zero-mul, zero-add)
 both-zero (suc b) w r h =
     rw (ne-eqb (suc b) 0 (λ (e : suc b ≡ 0). omega arith), ne-eqb (suc b * w + r) 0 (λ (e : suc b * w + r ≡ 0). omega (arith, suc-mul b w)))
 
-digits-zero : (k x : ℕ) → zeros k (bigBytes k x) ≡ eqb (x % 256 ^ k) 0
+digits-zero : (k x : ℕ) → areNulls k (bigBytes k x) ≡ eqb (x % 256 ^ k) 0
 unfolding bigBytes
 digits-zero zero x = rw mod-one
 digits-zero (suc k) x =
@@ -50,16 +44,9 @@ behind-big (suc j) k x = rw suc-add (behind-big j k x)
 drop-big : (n j x : ℕ) → j ≤ n → drop j (bigBytes n x) ≡ bigBytes (n - j) x
 drop-big n j x h = let e : j + (n - j) ≡ n = omega arith in rw e at (behind-big j (n - j) x)
 
-zeros-join : (a b : List ℕ) (n : ℕ) → zeros (length a + n) (a ++ b) ≡ (zeros (length a) a && zeros n b)
+zeros-join : (a b : List ℕ) (n : ℕ) → areNulls (length a + n) (a ++ b) ≡ (areNulls (length a) a && areNulls n b)
 zeros-join [] b n = rw zero-add
-zeros-join (x ∷ a) b n = rw (suc-add, zeros-join a b n) (sym (and-assoc (eqb x 0) (zeros (length a) a) (zeros n b)))
-
--- n bytes hold 8 n bits
-bits-bytes : (n : ℕ) → 2 ^ (8 * n) ≡ 256 ^ n
-bits-bytes zero = refl
-bits-bytes (suc n) =
-    let e : 8 * suc n ≡ 8 * n + 8 = omega arith in
-    ap (λ (m : ℕ). 2 ^ m) e ∙ pow-add 2 (8 * n) 8 ∙ ap (λ (m : ℕ). m * 256) (bits-bytes n) ∙ sym (pow-suc 256 n)
+zeros-join (x ∷ a) b n = rw (suc-add, zeros-join a b n) (sym (and-assoc (eqb x 0) (areNulls (length a) a) (areNulls n b)))
 
 -- what is left of eight bytes once the first j are shifted out
 shift-zero : (x j k : ℕ) → eqb (x * 256 ^ j % 256 ^ (k + j)) 0 ≡ eqb (x % 256 ^ k) 0
@@ -67,7 +54,7 @@ shift-zero x j k =
     rw (pow-add 256 k j, mod-mul (x * 256 ^ j) {m = 256 ^ k} {c = 256 ^ j} (power-pos k) (power-pos j), mul-div-cancel x (power-pos j), mul-mod-left x (256 ^ j))
     (sym (both-zero (x % 256 ^ k) (256 ^ j) 0 (power-pos j)) ∙ and-true (eqb (x % 256 ^ k) 0))
 
-left-zero : (x j : ℕ) → j ≤ 8 → eqb (x * 2 ^ (8 * j) % 2 ^ 64) 0 ≡ zeros (8 - j) (drop j (bigBytes 8 x))
+left-zero : (x j : ℕ) → j ≤ 8 → eqb (x * 2 ^ (8 * j) % 2 ^ 64) 0 ≡ areNulls (8 - j) (drop j (bigBytes 8 x))
 left-zero x j h =
     let e : 8 - j + j ≡ 8 = omega arith in
     rw (bits-bytes j, drop-big 8 j x h, digits-zero (8 - j) x) (rw e at (shift-zero x j (8 - j)))
@@ -85,9 +72,9 @@ module _ (x : Sixteen) (n : ℕ) where
   tail-high l h =
       let e : 16 - n ≡ 8 - n + 8 = omega arith in
       let long : length (drop n high) ≡ 8 - n = rw (drop-big 8 n (x .high) (omega arith)) (length-big (8 - n) (x .high)) in
-      let behind : zeros 8 low ≡ eqb (x .low) 0 = rw (digits-zero 8 (x .low), mod-eq-of-lt l) refl in
+      let behind : areNulls 8 low ≡ eqb (x .low) 0 = rw (digits-zero 8 (x .low), mod-eq-of-lt l) refl in
       rw (le-leb n 16 (omega arith), e, drop-append-le n high low (rw length-big (omega arith)), left-zero (x .high) n (omega arith))
-      (and-comm (eqb (x .low) 0) (zeros (8 - n) (drop n high)) ∙ rw (← behind) (sym (rw long at (zeros-join (drop n high) low 8))))
+      (and-comm (eqb (x .low) 0) (areNulls (8 - n) (drop n high)) ∙ rw (← behind) (sym (rw long at (zeros-join (drop n high) low 8))))
 
   pub tail-low : 8 ≤ n → n < 16 → eqb (x .low * 2 ^ (8 * n - 64) % 2 ^ 64) 0 ≡ tailFits x n
   unfolding sixteenBytes tailFits
@@ -117,9 +104,9 @@ named : (x : Sixteen) (n : ℕ) → leb (suc n) 16 ≡ true → within (Kind.tex
 unfolding within
 named x n e = rw (length-take-le (suc n) (sixteenBytes x) (rw length-sixteen (leb-true (suc n) 16 e)), e, le-leb 1 (suc n) (omega arith))
 
-pub profile-in : (k : List ℕ) (x : Sixteen) (n : ℕ) → fieldFits (record { key = k; must = false; kind = fields.shortText }) (maybeString 16 n (sixteenBytes x)) ≡ tailFits x n
-unfolding kinds kindIn tailFits
+pub profile-in : (k : List ℕ) (x : Sixteen) (n : ℕ) → fieldFits (record { key = k; must = false; kind = profileText }) (stringIf 16 n (sixteenBytes x)) ≡ tailFits x n
+unfolding tailFits
 profile-in k x zero = rw length-sixteen (and-true _)
 profile-in k x (suc n) =
     rw (ne-eqb (suc n) 0 (λ (e : suc n ≡ 0). omega arith), length-sixteen x)
-    (implied (leb (suc n) 16) (zeros (16 - suc n) (drop (suc n) (sixteenBytes x))) _ (named x n))
+    (implied (leb (suc n) 16) (areNulls (16 - suc n) (drop (suc n) (sixteenBytes x))) _ (named x n))

@@ -1,12 +1,9 @@
 -- What the type of a record says of its fields: those that fit by their width alone, by the variant. `Is` is what a function is handed of a record.
 -- Assumes nothing.
-use mathlib.Core.Path.{_≡_}
-use mathlib.Core.Bool.{true}
-use mathlib.Core.List.{List}
+use mathlib.Core.{Path._≡_, Bool.true, List.List}
 use Prim.Native.Nat.{ℕ, suc, _<_}
 use native.Mathlib.Omega.{arith}
-use lib.IntN.{ℤ, pos, negsuc}
-use lib.Signed.{mag}
+use lib.{IntN.ℤ, IntN.pos, IntN.negsuc, Signed.mag}
 use mir.Val.{Val}
 use denote.Laws.{Is}
 use denote.Struct.Declared.{row}
@@ -15,9 +12,7 @@ use borrow.Author.Tests.{le-leb}
 use Rattle.field.specs.Kind.{Kind, Value}
 use Rattle.message.specs.declared.MaybeVersion.{MaybeVersion}
 use Rattle.saying.specs.Fits.{within}
-use Rattle.record.specs.declared.Packet.{Packet}
-use Rattle.record.specs.declared.Body.{Body}
-use Rattle.record.specs.declared.Message.{Message}
+use Rattle.record.specs.declared.{Packet.Packet, Body.Body, Message.Message}
 use Rattle.message.proofs.MaybeVersion as the-version
 use Rattle.record.proofs.Packet as the-packet
 use Rattle.record.proofs.Body as the-body

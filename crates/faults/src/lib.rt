@@ -1,43 +1,30 @@
 // Which of a record's fields may not be written: document 01's 15, with the field's number.
-mod fields;
 mod part;
 
-use message::MaybeReal;
-use part::centre_id;
-use part::is_lent;
-use part::is_real;
-use part::maybe_place;
-use part::maybe_real;
-use part::maybe_version;
-use part::maybe_word;
-use part::station_id;
-use part::tail;
+use message::listed;
+use names::numbers::COMMANDS;
+use names::numbers::CON_CMP;
 use record::Body;
-use record::Con;
-use record::ConRsp;
-use record::Message;
-use record::Packet;
-use record::StatusRsp;
-use record::UlData;
 ghost use mathlib.Core.Path.{_≡_};
 ghost use Rattle.record.specs.Fits.{faultIn};
-ghost use Rattle.faults.specs.Tests.{AtOnce, bodyFault, conFault, conRspFault, statusFault, packetFault, ulDataFault, bareFault};
+ghost use Rattle.faults.specs.code.Tests.{AtOnce, bodyFault, conFault, conRspFault, statusFault, packetFault, ulDataFault, bareFault};
 
 // How many bytes the lent fields have at most.
 const MOST_MESSAGE: u8 = 64;
 
 const MOST_USER_DATA: u8 = 245;
 
-// Of the 21 commands the first eight have fields of their own.
-const FIRST_BARE: u8 = 8;
+// No field is at fault.
+const NONE: u8 = 0;
 
-const COMMANDS: u8 = 21;
+// The first of the commands that have no fields of their own.
+const FIRST_BARE: u8 = CON_CMP;
 
 // No field's number: what is told waits for the fields.
 const ASK_FIELDS: u8 = 255;
 
 // One more than the place of the command's first field at fault, in document 01's order; 0 where none is.
-pub fn fault(m: Message, d: &[u8]) -> u8
+pub fn fault(m: record::Message, d: &[u8]) -> u8
     ensures { λ r. ⌜ r ≡ faultIn m (now (d .entry)) ⌝ }
 {
     let b = m.body;
@@ -77,123 +64,123 @@ fn body_fault(b: Body, lent: usize) -> u8
             let p = x.packet;
             packet_fault(p)
         }
-        Body::DetRsp(_) => fields::NONE,
-        Body::AttPrp(_) => fields::NONE,
-        Body::DetPrp(_) => fields::NONE,
+        Body::DetRsp(_) => NONE,
+        Body::AttPrp(_) => NONE,
+        Body::DetPrp(_) => NONE,
         Body::UlData(x) => ul_data_fault(x, lent),
         Body::Bare(c) => bare_fault(c),
     }
 }
 
 // Con's version must be here.
-fn con_fault(x: Con) -> u8
+fn con_fault(x: record::Con) -> u8
     ensures { λ r. ⌜ r ≡ conFault x ⌝ }
 {
-    let place = x.geo_location;
+    let position = x.geo_location;
     let station = x.sn_bs_op_id;
     let centre = x.sn_sc_op_id;
     if !x.version.here {
-        return fields::VERSION;
+        return listed::VERSION + 1;
     }
-    if !maybe_place(place) {
-        return fields::CON_GEO_LOCATION;
+    if !part::maybe_position(position) {
+        return listed::CON_GEO_LOCATION + 1;
     }
-    if !station_id(station) {
-        return fields::SN_BS_OP_ID;
+    if !part::station_id(station) {
+        return listed::SN_BS_OP_ID + 1;
     }
-    if !centre_id(centre) {
-        return fields::SN_SC_OP_ID;
+    if !part::centre_id(centre) {
+        return listed::SN_SC_OP_ID + 1;
     }
-    fields::NONE
+    NONE
 }
 
-fn con_rsp_fault(x: ConRsp) -> u8
+fn con_rsp_fault(x: record::ConRsp) -> u8
     ensures { λ r. ⌜ r ≡ conRspFault x ⌝ }
 {
     let version = x.version;
-    if !maybe_version(version) {
-        return fields::VERSION;
+    if !part::maybe_version(version) {
+        return listed::VERSION + 1;
     }
-    fields::NONE
+    NONE
 }
 
-fn status_fault(x: StatusRsp, lent: usize) -> u8
+fn status_fault(x: record::StatusRsp, lent: usize) -> u8
     ensures { λ r. ⌜ r ≡ statusFault x lent ⌝ }
 {
-    let place = x.geo_location;
+    let position = x.geo_location;
     let uptime = x.uptime;
     let temp = x.temp;
     let cpu = x.cpu_load;
     let mem = x.mem_load;
-    if !is_lent(x.message_len, MOST_MESSAGE, lent) {
-        return fields::MESSAGE;
+    if !part::is_lent(x.message_len, MOST_MESSAGE, lent) {
+        return listed::MESSAGE + 1;
     }
-    if !is_real(x.duty_cycle) {
-        return fields::DUTY_CYCLE;
+    if !part::is_real(x.duty_cycle) {
+        return listed::DUTY_CYCLE + 1;
     }
-    if !maybe_place(place) {
-        return fields::STATUS_GEO_LOCATION;
+    if !part::maybe_position(position) {
+        return listed::STATUS_GEO_LOCATION + 1;
     }
-    if !maybe_word(uptime) {
-        return fields::UPTIME;
+    if !part::maybe_word(uptime) {
+        return listed::UPTIME + 1;
     }
-    if !maybe_real(temp) {
-        return fields::TEMP;
+    if !part::maybe_real(temp) {
+        return listed::TEMP + 1;
     }
-    if !maybe_real(cpu) {
-        return fields::CPU_LOAD;
+    if !part::maybe_real(cpu) {
+        return listed::CPU_LOAD + 1;
     }
-    if !maybe_real(mem) {
-        return fields::MEM_LOAD;
+    if !part::maybe_real(mem) {
+        return listed::MEM_LOAD + 1;
     }
-    fields::NONE
+    NONE
 }
 
 // What det and ulData tell of a packet.
-fn packet_fault(p: Packet) -> u8
+fn packet_fault(p: record::Packet) -> u8
     ensures { λ r. ⌜ r ≡ packetFault p ⌝ }
 {
     let duration = p.rx_duration;
     let signal = p.signal;
-    let eq_snr = MaybeReal {
+    let eq_snr = message::MaybeReal {
         here: signal.has_eq_snr,
         value: signal.eq_snr,
     };
     let profile = p.profile;
-    if !maybe_word(duration) {
-        return fields::RX_DURATION;
+    if !part::maybe_word(duration) {
+        return listed::RX_DURATION + 1;
     }
-    if !is_real(signal.snr) {
-        return fields::SNR;
+    if !part::is_real(signal.snr) {
+        return listed::SNR + 1;
     }
-    if !is_real(signal.rssi) {
-        return fields::RSSI;
+    if !part::is_real(signal.rssi) {
+        return listed::RSSI + 1;
     }
-    if !maybe_real(eq_snr) {
-        return fields::EQ_SNR;
+    if !part::maybe_real(eq_snr) {
+        return listed::EQ_SNR + 1;
     }
-    if !tail(profile, p.profile_len) {
-        return fields::PROFILE;
+    if !part::tail(profile, p.profile_len) {
+        return listed::PROFILE + 1;
     }
-    fields::NONE
+    NONE
 }
 
-fn ul_data_fault(x: UlData, lent: usize) -> u8
+fn ul_data_fault(x: record::UlData, lent: usize) -> u8
     ensures { λ r. ⌜ r ≡ ulDataFault x lent ⌝ }
 {
     let p = x.packet;
     let f = packet_fault(p);
-    if f != fields::NONE {
+    if f != NONE {
         return f;
     }
-    if !is_lent(x.user_len, MOST_USER_DATA, lent) {
-        return fields::USER_DATA;
+    if !part::is_lent(x.user_len, MOST_USER_DATA, lent) {
+        return listed::USER_DATA + 1;
     }
     let may_respond = !x.response_exp | x.dl_open;
     if !may_respond {
-        return fields::RESPONSE_EXP;
+        return listed::RESPONSE_EXP + 1;
     }
-    fields::NONE
+    NONE
 }
 
 // None of the eight commands that have more is bare.
@@ -202,7 +189,7 @@ fn bare_fault(c: u8) -> u8
 {
     let bare = (FIRST_BARE <= c) & (c < COMMANDS);
     if !bare {
-        return fields::COMMAND;
+        return listed::COMMAND + 1;
     }
-    fields::NONE
+    NONE
 }

@@ -1,15 +1,9 @@
 // Whether a part of a record fits: reals are finite, numbers have their sign, and what is absent is zero.
 use field::Position;
 use message::MaybeId;
-use message::MaybePosition;
-use message::MaybeReal;
-use message::MaybeVersion;
-use message::MaybeWord;
-use record::Sixteen;
 ghost use mathlib.Core.Path.{_≡_};
-ghost use Rattle.saying.specs.Says.{noBits, noPlace};
-ghost use Rattle.saying.specs.Fits.{isReal, isPlace};
-ghost use Rattle.faults.specs.Tests.{realFits, wordFits, stationIdFits, centreIdFits, versionFits, placeFits, tailFits, lentFits};
+ghost use Rattle.saying.specs.{Says.noBits, Says.noPosition, Fits.isReal, Fits.isPosition};
+ghost use Rattle.faults.specs.code.Tests.{realFits, wordFits, stationIdFits, centreIdFits, versionFits, positionFits, tailFits, lentFits};
 
 // Of a real's 64 bits: the sign's weight, the exponent's, and the exponent of one that is not finite.
 const SIGN: u64 = 0x8000_0000_0000_0000;
@@ -47,7 +41,7 @@ fn no_bits(x: f64) -> bool
     f64::to_bits(x) == 0
 }
 
-pub fn maybe_real(x: MaybeReal) -> bool
+pub fn maybe_real(x: message::MaybeReal) -> bool
     ensures { λ r. ⌜ r ≡ realFits (x .here) (x .value) ⌝ }
 {
     if x.here {
@@ -57,7 +51,7 @@ pub fn maybe_real(x: MaybeReal) -> bool
     }
 }
 
-pub fn maybe_word(x: MaybeWord) -> bool
+pub fn maybe_word(x: message::MaybeWord) -> bool
     ensures { λ r. ⌜ r ≡ wordFits x ⌝ }
 {
     x.here | (x.value == 0)
@@ -77,33 +71,37 @@ pub fn centre_id(x: MaybeId) -> bool
     if x.here { x.value <= 0 } else { x.value == 0 }
 }
 
-pub fn maybe_version(x: MaybeVersion) -> bool
+pub fn maybe_version(x: message::MaybeVersion) -> bool
     ensures { λ r. ⌜ r ≡ versionFits x ⌝ }
 {
     x.here | ((x.major == 0) & ((x.minor == 0) & (x.patch == 0)))
 }
 
-fn is_place(x: Position) -> bool
-    ensures { λ r. ⌜ r ≡ isPlace x ⌝ }
+fn is_position(x: Position) -> bool
+    ensures { λ r. ⌜ r ≡ isPosition x ⌝ }
 {
     is_real(x.latitude) & (is_real(x.longitude) & is_real(x.altitude))
 }
 
-fn no_place(x: Position) -> bool
-    ensures { λ r. ⌜ r ≡ noPlace x ⌝ }
+fn no_position(x: Position) -> bool
+    ensures { λ r. ⌜ r ≡ noPosition x ⌝ }
 {
     no_bits(x.latitude) & (no_bits(x.longitude) & no_bits(x.altitude))
 }
 
-pub fn maybe_place(x: MaybePosition) -> bool
-    ensures { λ r. ⌜ r ≡ placeFits x ⌝ }
+pub fn maybe_position(x: message::MaybePosition) -> bool
+    ensures { λ r. ⌜ r ≡ positionFits x ⌝ }
 {
     let p = x.value;
-    if x.here { is_place(p) } else { no_place(p) }
+    if x.here {
+        is_position(p)
+    } else {
+        no_position(p)
+    }
 }
 
 // At most sixteen bytes, and zeros behind the first n: nothing is left once those are shifted out.
-pub fn tail(x: Sixteen, n: u8) -> bool
+pub fn tail(x: record::Sixteen, n: u8) -> bool
     ensures { λ r. ⌜ r ≡ tailFits x n ⌝ }
 {
     let bits = BYTE_BITS * (n as u64);

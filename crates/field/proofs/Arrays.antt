@@ -1,41 +1,27 @@
 -- Arrays of bytes: what is said of the parts that are left is what is said of all. Each law in the shape of a need of the code.
 -- Assumes nothing.
 use mathlib.Core.Path.{_≡_, refl, sym, ap, _∙_}
-use mathlib.Core.Bool.{Bool, true, false}
-use mathlib.Core.List.{List, [], _∷_}
-use mathlib.Core.Option.{Option, some, none}
+use mathlib.Core.{Bool.Bool, Bool.true, Bool.false, List.List, List.[], List._∷_, Option.Option, Option.some, Option.none}
 use Prim.Native.Nat.{ℕ, zero, suc, _+_, _-_, _≤_, _<_}
 use native.Mathlib.Nat.{zero-add}
 use native.Mathlib.Omega.{arith}
 use lib.ListN.{length, getD}
-use Rattle.octets.specs.Choice.{either}
-use Rattle.octets.specs.Number.{bigAt, isThere, ifThere}
+use Rattle.octets.specs.{Choice.either, Number.bigAt, Number.isThere, Number.ifThere}
 use Rattle.octets.proofs.Reading.{inside}
-use Rattle.element.specs.declared.Shape.{Shape}
-use Rattle.element.specs.declared.Shape.the-variants.{Never, Plain, Text, Array, Map}
+use Rattle.element.specs.declared.Shape.{Shape, the-variants.Never, the-variants.Plain, the-variants.Text, the-variants.Array, the-variants.Map}
 use Rattle.element.specs.declared.Span.the-variants.{Holds}
-use Rattle.element.specs.Lead.{Class, classOf}
-use Rattle.element.specs.Form.{spanOf}
-use Rattle.element.specs.Meaning.{Elements, leafOf}
-use Rattle.element.specs.At.{leafAt}
+use Rattle.element.specs.{Lead.Class, Lead.classOf, Form.spanOf, Meaning.Elements, Meaning.leafOf, code.At.leafAt}
 use Rattle.number.specs.Number.{numberOf}
-use Rattle.walk.proofs.Leads.{row, says-fixarray, says-array}
-use Rattle.walk.proofs.Elements.{length-fits}
-use Rattle.field.specs.declared.Judged.{Judged}
-use Rattle.field.specs.declared.Opened.{Opened}
-use Rattle.field.specs.declared.Part.{Part}
-use Rattle.field.specs.declared.Octet.{Octet}
-use Rattle.field.specs.declared.Octet.the-variants.{Byte, Unfit}
-use Rattle.field.specs.Kind.{Kind, Value}
-use Rattle.field.specs.Judge.{onSome, partsOf, octetIn, octetsIn, sized, judge}
-use Rattle.field.specs.At.{endOf, leavesFrom, shallowAt}
-use Rattle.field.specs.Read.{badly, well, tellOf, readAt, sizedOf}
-use Rattle.field.specs.Part.{openedAt, isArray, nowhere, partsBy, Lists}
-use Rattle.field.specs.Item.{octetBy, octetAt, isSome, octetsFrom}
-use Rattle.field.proofs.Shallow.{by-shallow, shallow-past, leaf-all}
-use Rattle.field.proofs.Heads.{open-is, span-bare}
-use Rattle.field.proofs.Views.{seen, seen-there}
-use Rattle.field.proofs.Texts.{sized-few, sized-many, sized-in, sized-told}
+use Rattle.walk.proofs.{Leads.row, Leads.says-fixarray, Leads.says-array, Elements.length-fits}
+use Rattle.field.specs.declared.{Judged.Judged, Opened.Opened, Extent.Extent}
+use Rattle.field.specs.declared.Octet.{Octet, the-variants.Byte, the-variants.Unfit}
+use Rattle.field.specs.{Kind.Kind, Kind.Value, code.At.endOf, code.At.leavesFrom, code.At.shallowAt}
+use Rattle.field.specs.Judge.{onSome, partsOf, octetIn, octetsIn, stringSized, judge}
+use Rattle.field.specs.code.Read.{badly, well, tellOf, readAt, sizedOf}
+use Rattle.field.specs.code.Extent.{openedAt, isArray, nowhere, partsBy, Lists}
+use Rattle.field.specs.code.Item.{octetBy, octetAt, isSome, octetsFrom}
+use Rattle.field.proofs.{Shallow.by-shallow, Shallow.shallow-past, Shallow.leaf-all, Heads.open-is, Heads.span-bare}
+use Rattle.field.proofs.{Views.seen, Views.seen-there, Texts.sized-many, Texts.sized-in, Texts.sized-told}
 
 no-parts : (c : Class) (b : ℕ) (d : List ℕ) → partsOf (leafOf c b d) ≡ none
 no-parts Class.small b d = refl
@@ -70,13 +56,13 @@ module _ (s : List ℕ) (at : ℕ) (o : Opened) (e : o ≡ openedAt s at) (w : o
   pub array-there : t ≡ true → Lists s at (record { there = true; from = o .from; size = o .size })
   array-there u = record { is = by-array ∙ ap (λ (b : Bool). partsBy b (leavesFrom s (o .size) (o .from))) u; within = w }
 
-  pub array-not : (r : Part) → t ≡ false → r ≡ nowhere → Lists s at r
+  pub array-not : (r : Extent) → t ≡ false → r ≡ nowhere → Lists s at r
   array-not r u p =
       rw p (record { is = by-array ∙ ap (λ (b : Bool). partsBy b (leavesFrom s (o .size) (o .from))) u; within = omega arith })
 
 -- a short one, by its lead byte alone
 module _ (s : List ℕ) (at : ℕ) where
-  pub array-past : (r : Part) → r ≡ nowhere → length s ≤ at → Lists s at r
+  pub array-past : (r : Extent) → r ≡ nowhere → length s ≤ at → Lists s at r
   array-past r e h = rw e (record { is = ap partsOf (shallow-past s at h); within = omega arith })
 
   pub array-fix : at < length s → 0x90 ≤ getD s at 0 → getD s at 0 < 0xA0 → Lists s at (record { there = true; from = at + 1; size = getD s at 0 - 0x90 })
@@ -133,8 +119,6 @@ all-done s k q r h e =
     let z : k ≡ 0 = omega arith in
     sym (ap (λ (n : ℕ). isSome (octetsFrom s n q)) z) ∙ e
 
-pub ruleset alls = (all-more, all-none, all-done, arith)
-
 -- as many bytes as parts
 pub octets-zero : (s : List ℕ) (at : ℕ) → octetsFrom s 0 at ≡ some []
 unfolding octetsFrom octetsIn leavesFrom
@@ -154,11 +138,11 @@ length-octets s (suc j) at d e = go (octetAt s at) (λ next bs. length-octets s 
 
 -- how many, and whether they are bytes
 module _ (s : List ℕ) (n from lo hi : ℕ) where
-  counted-is : either (isSome (octetsFrom s n from)) (λ _. sizedOf lo hi n) (λ _. badly) ≡ tellOf (onSome (octetsFrom s n from) (sized lo hi))
+  counted-is : either (isSome (octetsFrom s n from)) (λ _. sizedOf lo hi n) (λ _. badly) ≡ tellOf (onSome (octetsFrom s n from) (stringSized lo hi))
   unfolding tellOf
   counted-is = go (octetsFrom s n from) refl
     where
-      go : (o : Option (List ℕ)) → octetsFrom s n from ≡ o → either (isSome o) (λ _. sizedOf lo hi n) (λ _. badly) ≡ tellOf (onSome o (sized lo hi))
+      go : (o : Option (List ℕ)) → octetsFrom s n from ≡ o → either (isSome o) (λ _. sizedOf lo hi n) (λ _. badly) ≡ tellOf (onSome o (stringSized lo hi))
       go none e = refl
       go (some d) e = ap (sizedOf lo hi) (sym (length-octets s n from d e)) ∙ sized-told lo hi d
 
@@ -167,38 +151,31 @@ module _ (s : List ℕ) (n from lo hi : ℕ) where
     both-bad e f true = f
     both-bad e f false = e
 
-    pub count-few : r ≡ badly → n < lo → r ≡ tellOf (onSome (octetsFrom s n from) (sized lo hi))
-    count-few e h = both-bad e (sized-few r lo hi n e h) (isSome (octetsFrom s n from)) ∙ counted-is
-
-    pub count-many : r ≡ badly → hi < n → r ≡ tellOf (onSome (octetsFrom s n from) (sized lo hi))
+    pub count-many : r ≡ badly → hi < n → r ≡ tellOf (onSome (octetsFrom s n from) (stringSized lo hi))
     count-many e h = both-bad e (sized-many r lo hi n e h) (isSome (octetsFrom s n from)) ∙ counted-is
 
     module _ (t : Bool) (q : t ≡ isSome (octetsFrom s n from)) where
-      by-count : (b : Bool) → t ≡ b → either b (λ _. sizedOf lo hi n) (λ _. badly) ≡ tellOf (onSome (octetsFrom s n from) (sized lo hi))
+      by-count : (b : Bool) → t ≡ b → either b (λ _. sizedOf lo hi n) (λ _. badly) ≡ tellOf (onSome (octetsFrom s n from) (stringSized lo hi))
       by-count b u = ap (λ (x : Bool). either x (λ _. sizedOf lo hi n) (λ _. badly)) (sym u ∙ q) ∙ counted-is
 
-      pub count-good : r ≡ well n → lo ≤ n → n ≤ hi → t ≡ true → r ≡ tellOf (onSome (octetsFrom s n from) (sized lo hi))
+      pub count-good : r ≡ well n → lo ≤ n → n ≤ hi → t ≡ true → r ≡ tellOf (onSome (octetsFrom s n from) (stringSized lo hi))
       count-good e g h u = sized-in r lo hi n e g h ∙ by-count true u
 
-      pub count-bad : r ≡ badly → t ≡ false → r ≡ tellOf (onSome (octetsFrom s n from) (sized lo hi))
+      pub count-bad : r ≡ badly → t ≡ false → r ≡ tellOf (onSome (octetsFrom s n from) (stringSized lo hi))
       count-bad e u = e ∙ by-count false u
 
-pub ruleset counts = (count-few, count-many, count-good, count-bad)
-
 -- the array at a place
-module _ (s : List ℕ) (at : ℕ) (a : Part) (y : Lists s at a) where
+module _ (s : List ℕ) (at : ℕ) (a : Extent) (y : Lists s at a) where
   pub by-parts : (t : Bool) → a .there ≡ t → (f : List ℕ → Option Value) → onSome (partsBy t (leavesFrom s (a .size) (a .from))) (λ es. onSome (octetsIn es) f) ≡ onSome (partsOf (shallowAt s at)) (λ es. onSome (octetsIn es) f)
   by-parts t e f =
       ap (λ (o : Option Elements). onSome o (λ es. onSome (octetsIn es) f))
       (ap (λ (b : Bool). partsBy b (leavesFrom s (a .size) (a .from))) (sym e) ∙ sym (y .is))
 
   module _ (r : Judged) (lo hi : ℕ) where
-    pub octets-good : a .there ≡ true → r ≡ tellOf (onSome (octetsFrom s (a .size) (a .from)) (sized lo hi)) → r ≡ readAt (Kind.arrays lo hi) s at
+    pub octets-good : a .there ≡ true → r ≡ tellOf (onSome (octetsFrom s (a .size) (a .from)) (stringSized lo hi)) → r ≡ readAt (Kind.arrays lo hi) s at
     unfolding readAt judge octetsFrom
-    octets-good t e = e ∙ ap tellOf (by-parts true t (sized lo hi))
+    octets-good t e = e ∙ ap tellOf (by-parts true t (stringSized lo hi))
 
     pub octets-bad : a .there ≡ false → r ≡ badly → r ≡ readAt (Kind.arrays lo hi) s at
     unfolding readAt judge tellOf
-    octets-bad t e = e ∙ ap tellOf (by-parts false t (sized lo hi))
-
-pub ruleset arrays = (octets-good, octets-bad)
+    octets-bad t e = e ∙ ap tellOf (by-parts false t (stringSized lo hi))

@@ -2,26 +2,18 @@
 use mathlib.Core.Path.{_≡_, refl, sym, ap, _∙_}
 use mathlib.Core.Bool.{true, false, _&&_, and-false}
 use mathlib.Core.List.{List}
-use Prim.Native.Nat.{ℕ, zero, suc, _+_, _-_, _*_, _^_, _≤_, _<_}
+use Prim.Native.Nat.{ℕ, zero, suc, _+_, _-_, _*_, _≤_, _<_}
 use native.Mathlib.Nat.{add-zero, sub-zero}
 use native.Mathlib.Omega.{arith}
 use lib.Dec.{eqb}
 use lib.ListN.{length, getD, take, drop}
 use borrow.Author.Tests.{le-leb, lt-leb, ne-eqb, eq-eqb}
-use Rattle.field.specs.declared.Judged.{Judged}
-use Rattle.field.specs.declared.Release.{Release}
-use Rattle.field.specs.declared.Fed.{Fed}
-use Rattle.field.specs.declared.Fed.the-variants.{On, Off}
-use Rattle.field.specs.declared.Part.{Part}
-use Rattle.field.specs.Kind.{Kind}
-use Rattle.field.specs.Version.{versionOf}
-use Rattle.field.specs.Judge.{judge}
-use Rattle.field.specs.Read.{badly, well, tellOf, readAt}
-use Rattle.field.specs.Part.{Bears}
-use Rattle.field.specs.Feed.{release, blank, dotBy, dottedOf, digitOf, fedOf, onFed, fedAll, outcomeOf}
-use Rattle.field.proofs.Texts.{by-text}
-use Rattle.field.proofs.Strings.{take-more}
-use Rattle.field.proofs.Versions.{version-is}
+use Rattle.field.specs.declared.{Released.Released, Release.Release, Extent.Extent}
+use Rattle.field.specs.declared.Fed.{Fed, the-variants.On, the-variants.Off}
+use Rattle.field.specs.{Kind.Kind, Version.versionOf, Judge.judge, code.At.shallowAt, code.Read.unreleased, code.Read.releasedBy}
+use Rattle.field.specs.{code.Extent.Bears}
+use Rattle.field.specs.code.Feed.{release, unfed, dotBy, dottedOf, digitOf, fedOf, onFed, fedAll, outcomeOf}
+use Rattle.field.proofs.{Texts.by-text, Strings.take-more, Versions.version-is}
 
 -- a dot
 module _ (v : Release) where
@@ -87,7 +79,7 @@ module _ (v : Release) (c : ℕ) where
 pub ruleset feeds = (fed-dot, fed-low, fed-high, fed-digit, arith)
 
 -- all bytes
-pub scan-start : (s : List ℕ) (from n : ℕ) → fedAll blank (take (n - 0) (drop (from + 0) s)) ≡ fedAll blank (take n (drop from s))
+pub scan-start : (s : List ℕ) (from n : ℕ) → fedAll unfed (take (n - 0) (drop (from + 0) s)) ≡ fedAll unfed (take n (drop from s))
 scan-start s from n = rw (sub-zero, add-zero)
 
 module _ (s : List ℕ) (from n : ℕ) (v : Release) (i : ℕ) (z : Fed) (e : fedAll v (take (n - i) (drop (from + i) s)) ≡ z) where
@@ -113,30 +105,30 @@ module _ (s : List ℕ) (from n : ℕ) (v : Release) (i : ℕ) (z : Fed) (e : fe
 pub ruleset scans = (scan-start, scan-done, scan-on, scan-off, arith)
 
 -- the end
-module _ (f : Fed) (r : Judged) where
-  pub end-off : f ≡ Off → r ≡ badly → r ≡ tellOf (outcomeOf f)
-  unfolding tellOf
+module _ (f : Fed) (r : Released) where
+  pub end-off : f ≡ Off → r ≡ unreleased 1 → r ≡ releasedBy (outcomeOf f)
+  unfolding releasedBy
   end-off e q = q ∙ sym (rw e)
 
-  module _ (v : Release) (e : f ≡ On v) where
-    pub end-good : eqb (v .dots) 2 && v .digit ≡ true → r ≡ well (v .first * 2 ^ 32 + v .second * 2 ^ 16 + v .number) → r ≡ tellOf (outcomeOf f)
-    unfolding tellOf
-    end-good t q = q ∙ sym (rw e (simp t))
+  pub end-short : (v : Release) → f ≡ On v → eqb (v .dots) 2 && v .digit ≡ false → r ≡ unreleased 1 → r ≡ releasedBy (outcomeOf f)
+  unfolding releasedBy
+  end-short v e t q = q ∙ sym (rw e (simp t))
 
-    pub end-short : eqb (v .dots) 2 && v .digit ≡ false → r ≡ badly → r ≡ tellOf (outcomeOf f)
-    unfolding tellOf
-    end-short t q = q ∙ sym (rw e (simp t))
+pub end-good : (f : Fed) (v : Release) → f ≡ On v → eqb (v .dots) 2 && v .digit ≡ true
+    → record { state = 0; major = v .first; minor = v .second; patch = v .number } ≡ releasedBy (outcomeOf f)
+unfolding releasedBy
+end-good f v e t = sym (rw e (simp t))
 
 pub ruleset endings = (end-off, end-good, end-short, arith)
 
-module _ (s : List ℕ) (at : ℕ) (p : Part) (y : Bears s at p) (r : Judged) where
-  pub version-good : (f : Fed) → p .there ≡ true → f ≡ fedAll blank (take (p .size) (drop (p .from) s)) → r ≡ tellOf (outcomeOf f) → r ≡ readAt Kind.versions s at
-  unfolding readAt judge
+module _ (s : List ℕ) (at : ℕ) (p : Extent) (y : Bears s at p) (r : Released) where
+  pub version-good : (f : Fed) → p .there ≡ true → f ≡ fedAll unfed (take (p .size) (drop (p .from) s)) → r ≡ releasedBy (outcomeOf f) → r ≡ releasedBy (judge Kind.versions (shallowAt s at))
+  unfolding judge
   version-good f t e q =
-      q ∙ ap tellOf (ap outcomeOf e ∙ version-is (take (p .size) (drop (p .from) s)) ∙ by-text s at p y true t versionOf)
+      q ∙ ap releasedBy (ap outcomeOf e ∙ version-is (take (p .size) (drop (p .from) s)) ∙ by-text s at p y true t versionOf)
 
-  pub version-bad : p .there ≡ false → r ≡ badly → r ≡ readAt Kind.versions s at
-  unfolding readAt judge tellOf
-  version-bad t q = q ∙ ap tellOf (by-text s at p y false t versionOf)
+  pub version-bad : p .there ≡ false → r ≡ unreleased 1 → r ≡ releasedBy (judge Kind.versions (shallowAt s at))
+  unfolding judge releasedBy
+  version-bad t q = q ∙ ap releasedBy (by-text s at p y false t versionOf)
 
 pub ruleset versions = (version-good, version-bad, arith)

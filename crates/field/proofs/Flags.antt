@@ -2,8 +2,7 @@
 -- Assumes nothing.
 use mathlib.Core.Path.{_≡_, refl, sym, ap, _∙_}
 use mathlib.Core.Bool.{Bool, true, false, not, _||_}
-use mathlib.Core.List.{List}
-use mathlib.Core.Option.{Option, some, none}
+use mathlib.Core.{List.List, Option.Option, Option.some, Option.none}
 use Prim.Native.Nat.{ℕ, _+_, _-_, _≤_, _<_}
 use native.Mathlib.Omega.{arith}
 use lib.Dec.{T, eqb}
@@ -15,16 +14,13 @@ use Rattle.octets.proofs.Ranges.{ranged}
 use Rattle.element.specs.declared.Shape.the-variants.{Plain}
 use Rattle.element.specs.declared.Span.the-variants.{Ends}
 use Rattle.element.specs.Lead.{Class, classOf, headOf, leadBytes, rowIn}
-use Rattle.element.specs.Meaning.{Element, leafOf}
-use Rattle.element.specs.At.{leafAt}
+use Rattle.element.specs.{Meaning.Element, Meaning.leafOf, code.At.leafAt}
 use Rattle.element.proofs.At.{by-span}
 use Rattle.walk.proofs.Leads.{row}
 use Rattle.field.specs.declared.Judged.{Judged}
-use Rattle.field.specs.Kind.{Kind, Value}
-use Rattle.field.specs.Judge.{onSome, truthOf, judge}
-use Rattle.field.specs.Read.{badly, well, tellOf, readAt}
-use Rattle.field.proofs.Shallow.{leaf-view, leaf-all, shallow-past}
-use Rattle.field.proofs.Heads.{plain-ends}
+use Rattle.field.specs.{Kind.Kind, Kind.Value, Judge.onSome, Judge.truthOf, Judge.judge}
+use Rattle.field.specs.code.Read.{badly, well, tellOf, readAt}
+use Rattle.field.proofs.{Shallow.leaf-view, Shallow.leaf-all, Shallow.shallow-past, Heads.plain-ends}
 
 abbrev isBool : Class → Bool
 isBool Class.small = false

@@ -1,35 +1,28 @@
 -- A head with the length that follows it, each law in the shape of a need of the code. Assumes nothing.
 use mathlib.Core.Path.{_≡_, refl, sym, ap, _∙_}
-use mathlib.Core.Bool.{Bool, true, false}
-use mathlib.Core.List.{List}
+use mathlib.Core.{Bool.Bool, Bool.true, Bool.false, List.List}
 use Prim.Native.Nat.{ℕ, _+_, _-_, _%_, _≤_, _<_}
 use native.Mathlib.Omega.{arith}
 use native.Mathlib.Nat.{add-zero}
-use lib.Dec.{ltb, leb}
-use lib.ListN.{length, getD}
+use lib.{Dec.ltb, Dec.leb, ListN.length, ListN.getD}
 use borrow.Author.Tests.{lt-ltb, le-ltb, le-leb, lt-leb, leb-true, ltb-false}
-use Rattle.octets.specs.Choice.{either}
-use Rattle.octets.specs.Number.{bigAt, ifThere}
+use Rattle.octets.specs.{Choice.either, Number.bigAt, Number.ifThere}
 use Rattle.octets.proofs.Reading.{if-there}
-use Rattle.element.specs.declared.Shape.{Shape}
-use Rattle.element.specs.declared.Shape.the-variants.{Never, Plain, Text, Array, Map}
+use Rattle.element.specs.declared.Shape.{Shape, the-variants.Never, the-variants.Plain, the-variants.Text, the-variants.Array, the-variants.Map}
 use Rattle.element.specs.declared.Head.{Head}
 use Rattle.element.specs.declared.Span.the-variants.{Cut, Ends}
-use Rattle.element.specs.Lead.{headOf}
-use Rattle.element.specs.Form.{bodyOf, contentOf, spanOf}
-use Rattle.walk.specs.Short.{Says, twoTo}
-use Rattle.walk.proofs.Leads.{row, says-number}
-use Rattle.walk.proofs.Elements.{length-fits}
+use Rattle.element.specs.{Lead.headOf, Form.bodyOf, Form.contentOf, Form.spanOf}
+use Rattle.walk.specs.code.Short.{Announces, twoTo}
+use Rattle.walk.proofs.{Leads.row, Leads.says-number, Elements.length-fits}
 use Rattle.field.specs.declared.Opened.{Opened}
-use Rattle.field.specs.At.{endOf}
-use Rattle.field.specs.Part.{shut, isBody, openedAt}
+use Rattle.field.specs.{code.At.endOf, code.Extent.shut, code.Extent.isBody, code.Extent.openedAt}
 
 module _ (s : List ℕ) (at : ℕ) where
   pub open-past : (r : Opened) → r ≡ shut → length s ≤ at → r ≡ openedAt s at
   unfolding openedAt
   open-past r e h = e ∙ simp (le-ltb at (length s) h)
 
-  module _ (h : Head) (there : at < length s) (y : Says (getD s at 0) h) where
+  module _ (h : Head) (there : at < length s) (y : Announces (getD s at 0) h) where
     pub open-cut : (r : Opened) → r ≡ shut → length s - at - 1 < h .wide → r ≡ openedAt s at
     unfolding openedAt
     open-cut r e g = e ∙ rw (← y .is) (simp (lt-ltb at (length s) there, lt-leb (at + 1 + h .wide) (length s) (omega arith)))

@@ -1,40 +1,37 @@
 -- An array's bytes read into a room in one pass: the room with the leading bytes that are left put from i on is the room with all of them.
 -- Each law of the loops in the shape of a need of the code; at the end what a caller learns of the room. Assumes nothing.
-use mathlib.Core.Path.{_≡_, refl, sym, ap, ap₂, _∙_}
+use mathlib.Core.Path.{_≡_, refl, sym, ap, _∙_}
 use mathlib.Core.Bool.{Bool, true, false, _&&_}
-use mathlib.Core.List.{List, [], _∷_}
-use mathlib.Core.Option.{Option, some, none}
+use mathlib.Core.{List.List, List.[], List._∷_, Option.Option, Option.some, Option.none}
 use Prim.Native.Nat.{ℕ, zero, suc, _+_, _-_, _≤_, _<_}
 use native.Mathlib.Nat.{add-zero, sub-zero}
 use native.Mathlib.Omega.{arith}
 use lib.Dec.{leb}
-use lib.ListN.{length, getD, set}
-use borrow.Author.Tests.{le-leb, lt-leb, leb-true}
-use Rattle.octets.specs.Choice.{either}
-use Rattle.octets.specs.Bytes.{putAt}
+use lib.ListN.{length, getD, set, length-set}
+use borrow.Author.Tests.{le-leb, lt-leb}
+use Rattle.octets.specs.{Choice.either, Bytes.putAt}
 use Rattle.octets.proofs.Stores.{kept}
-use Rattle.octets.proofs.Writing.{put-none, length-put}
-use Rattle.element.specs.Form.{spanOf}
-use Rattle.element.specs.Meaning.{Element, Elements}
-use Rattle.element.specs.Meaning.Elements.{no-more, more}
-use Rattle.element.specs.At.{leafAt}
+use Rattle.octets.proofs.Writing.{put-none, put-one, put-then, length-put}
+use Rattle.element.specs.{Form.spanOf, Meaning.Elements, Meaning.Elements.no-more, Meaning.Elements.more, code.At.leafAt}
 use Rattle.number.specs.Number.{numberOf}
-use Rattle.field.specs.declared.Judged.{Judged}
-use Rattle.field.specs.declared.Part.{Part}
-use Rattle.field.specs.declared.Octet.{Octet}
-use Rattle.field.specs.declared.Octet.the-variants.{Byte, Unfit}
-use Rattle.field.specs.Kind.{Kind, Value}
-use Rattle.field.specs.Judge.{when, onSome, partsOf, octetIn, octetsIn, sized, judge}
-use Rattle.field.specs.Cell.{Cell, judged, stateOf}
-use Rattle.field.specs.At.{endOf, leavesFrom, shallowAt, cellAt, filled}
-use Rattle.field.specs.Into.{countOf, leadBy, leadingIn, intoBy, leadInto, readInto}
-use Rattle.field.specs.Read.{badly, well, tellOf, readAt}
-use Rattle.field.specs.Part.{Lists, partsBy}
-use Rattle.field.specs.Item.{octetBy, octetAt, LowRun, isSome, octetsFrom, leadingFrom}
+use Rattle.field.specs.declared.{Judged.Judged, Extent.Extent}
+use Rattle.field.specs.declared.Octet.{Octet, the-variants.Byte, the-variants.Unfit}
+use Rattle.field.specs.{Kind.Kind, Kind.Value, Cell.Cell, Cell.judged, code.Told.cellState, code.Extent.Lists, code.Extent.partsBy}
+use Rattle.field.specs.Judge.{when, onSome, partsOf, octetIn, octetsIn, stringSized, judge}
+use Rattle.field.specs.code.At.{endOf, leavesFrom, shallowAt, cellAt, stringFilled}
+use Rattle.field.specs.code.Into.{partsCounted, leadBy, leadingIn, intoBy, leadInto, readInto}
+use Rattle.field.specs.code.Read.{badly, well, tellOf, readAt}
+use Rattle.field.specs.code.Item.{octetBy, octetAt, LowRun, isSome, octetsFrom, leadingFrom}
 use Rattle.field.proofs.Arrays.{all-more, all-none, all-done, count-many, count-good, count-bad, octets-good, octets-bad}
-use Rattle.field.proofs.Copies.{put-cons, roomy}
-use Rattle.field.proofs.Runs.{run-octet}
-use Rattle.field.proofs.Families.{cells}
+use Rattle.field.proofs.{Runs.run-octet, Cells.cells}
+
+-- one byte, and those behind it
+pub put-cons : (room : List ℕ) (i v : ℕ) (bs : List ℕ) → i + suc (length bs) ≤ length room → putAt (set room i v) (i + 1) bs ≡ putAt room i (v ∷ bs)
+put-cons room i v bs h =
+    ap (λ (r : List ℕ). putAt r (i + 1) bs) (put-one room i v (omega arith)) ∙ put-then room i (v ∷ []) bs (omega arith)
+
+pub roomy : (n : ℕ) (out : List ℕ) (i v : ℕ) → n ≤ length out → n ≤ length (set out i v)
+roomy n out i v h = rw length-set h
 
 -- the leading bytes, with one part more in front
 abbrev leads : Octet → (ℕ → List ℕ) → List ℕ
@@ -133,21 +130,21 @@ module _ (s : List ℕ) (n from : ℕ) (room out mid : List ℕ) (q i p j : ℕ)
   lead-stop x h e y = lead-unfit s n (putAt room 0 (leadingFrom s n from)) out q i (b ∙ a) x h e y
 
 module _ (s : List ℕ) (n from hi : ℕ) (r : Judged) (q i : ℕ) (g : isSome (octetsFrom s (n - i) q) ≡ isSome (octetsFrom s n from)) where
-  pub told-end : r ≡ well n → n ≤ hi → n ≤ i → r ≡ tellOf (onSome (octetsFrom s n from) (sized 0 hi))
+  pub told-end : r ≡ well n → n ≤ hi → n ≤ i → r ≡ tellOf (onSome (octetsFrom s n from) (stringSized 0 hi))
   told-end e l h = count-good s n from 0 hi r true (fit-done s n q i (isSome (octetsFrom s n from)) g h) e (omega arith) l refl
 
-  pub told-stop : r ≡ badly → (x : Octet) → i < n → x ≡ octetAt s q → x ≡ Unfit → r ≡ tellOf (onSome (octetsFrom s n from) (sized 0 hi))
+  pub told-stop : r ≡ badly → (x : Octet) → i < n → x ≡ octetAt s q → x ≡ Unfit → r ≡ tellOf (onSome (octetsFrom s n from) (stringSized 0 hi))
   told-stop e x h f y = count-bad s n from 0 hi r false (fit-unfit s n q i (isSome (octetsFrom s n from)) g x h f y) e refl
 
 pub ruleset leadings = (kept, roomy, lead-start, fit-start, run-lead-next, run-fit-next, lead-next, fit-next, lead-end, lead-stop, told-end, told-stop, arith)
 
-count-leaves : (s : List ℕ) (n q : ℕ) → countOf (leavesFrom s n q) ≡ n
-unfolding countOf leavesFrom
+count-leaves : (s : List ℕ) (n q : ℕ) → partsCounted (leavesFrom s n q) ≡ n
+unfolding partsCounted leavesFrom
 count-leaves s zero q = refl
 count-leaves s (suc n) q = ap suc (count-leaves s n (endOf q (spanOf s q)))
 
 -- the array at a place
-module _ (s : List ℕ) (at : ℕ) (a : Part) (y : Lists s at a) (room : List ℕ) where
+module _ (s : List ℕ) (at : ℕ) (a : Extent) (y : Lists s at a) (room : List ℕ) where
   lead-parts : (t : Bool) → a .there ≡ t → intoBy (partsBy t (leavesFrom s (a .size) (a .from))) room ≡ leadInto s at room
   unfolding leadInto
   lead-parts t e =
@@ -196,7 +193,7 @@ into-missing s room = refl
 -- its length stays
 length-lead : (o : Option Elements) (room : List ℕ) → length (intoBy o room) ≡ length room
 length-lead none room = refl
-length-lead (some es) room = go (leb (countOf es) (length room))
+length-lead (some es) room = go (leb (partsCounted es) (length room))
   where
     go : (b : Bool) → length (either b (λ _. putAt room 0 (leadingIn es)) (λ _. room)) ≡ length room
     go true = length-put room 0 (leadingIn es)
@@ -211,10 +208,10 @@ length-into s (suc (suc p)) room = length-lead (partsOf (shallowAt s (suc (suc p
 -- where all parts are bytes, those that lead are all
 pub record AllLead (es : Elements) (d : List ℕ) : Type 0 where
   pub is : leadingIn es ≡ d
-  pub count : countOf es ≡ length d
+  pub count : partsCounted es ≡ length d
 
 all-lead : (es : Elements) (d : List ℕ) → octetsIn es ≡ some d → AllLead es d
-unfolding octetsIn leadingIn countOf
+unfolding octetsIn leadingIn partsCounted
 all-lead no-more d e = let z : [] ≡ d = cc in rw (← z) (record { is = refl; count = refl })
 all-lead (more x es) d e = go (octetIn (numberOf x)) (octetsIn es) refl (λ bs. all-lead es bs) e
   where
@@ -230,26 +227,26 @@ all-lead (more x es) d e = go (octetIn (numberOf x)) (octetsIn es) refl (λ bs. 
         })
 
 module _ (room : List ℕ) (v : Value) where
-  good-sized : (es : Elements) (d : List ℕ) → AllLead es d → (t : Bool) → leb (length d) (length room) ≡ t → judged (when (leb 0 (length d) && t) (Value.string d)) ≡ Cell.good v → intoBy (some es) room ≡ filled (some v) room
+  good-sized : (es : Elements) (d : List ℕ) → AllLead es d → (t : Bool) → leb (length d) (length room) ≡ t → judged (when (leb 0 (length d) && t) (Value.string d)) ≡ Cell.good v → intoBy (some es) room ≡ stringFilled (some v) room
   good-sized es d y false q e =
       let f : leb 0 (length d) ≡ true = le-leb 0 (length d) (omega arith) in
-      absurd (let z : _≡_ {A = ℕ} 0 1 = ap stateOf (sym (simp f at e)) in omega arith)
+      absurd (let z : _≡_ {A = ℕ} 0 1 = ap cellState (sym (simp f at e)) in omega arith)
   good-sized es d y true q e =
       let f : leb 0 (length d) ≡ true = le-leb 0 (length d) (omega arith) in
       let z : Value.string d ≡ v = cc (simp f at e) in
       rw (← z) (simp (y .is, y .count, q))
 
-  good-octets : (es : Elements) (o : Option (List ℕ)) → octetsIn es ≡ o → judged (onSome o (sized 0 (length room))) ≡ Cell.good v → intoBy (some es) room ≡ filled (some v) room
-  good-octets es none q e = absurd (let z : _≡_ {A = ℕ} 0 1 = ap stateOf (sym e) in omega arith)
+  good-octets : (es : Elements) (o : Option (List ℕ)) → octetsIn es ≡ o → judged (onSome o (stringSized 0 (length room))) ≡ Cell.good v → intoBy (some es) room ≡ stringFilled (some v) room
+  good-octets es none q e = absurd (let z : _≡_ {A = ℕ} 0 1 = ap cellState (sym e) in omega arith)
   good-octets es (some d) q e = good-sized es d (all-lead es d q) (leb (length d) (length room)) refl e
 
-  good-parts : (o : Option Elements) → judged (onSome o (λ es. onSome (octetsIn es) (sized 0 (length room)))) ≡ Cell.good v → intoBy o room ≡ filled (some v) room
-  good-parts none e = absurd (let z : _≡_ {A = ℕ} 0 1 = ap stateOf (sym e) in omega arith)
+  good-parts : (o : Option Elements) → judged (onSome o (λ es. onSome (octetsIn es) (stringSized 0 (length room)))) ≡ Cell.good v → intoBy o room ≡ stringFilled (some v) room
+  good-parts none e = absurd (let z : _≡_ {A = ℕ} 0 1 = ap cellState (sym e) in omega arith)
   good-parts (some es) e = good-octets es (octetsIn es) refl e
 
 -- the bytes of a good field stand in it
-pub into-good : (s : List ℕ) (p : ℕ) (room : List ℕ) (v : Value) → cellAt (Kind.arrays 0 (length room)) s p ≡ Cell.good v → readInto s p room ≡ filled (some v) room
+pub into-good : (s : List ℕ) (p : ℕ) (room : List ℕ) (v : Value) → cellAt (Kind.arrays 0 (length room)) s p ≡ Cell.good v → readInto s p room ≡ stringFilled (some v) room
 unfolding cellAt judge readInto leadInto
-into-good s zero room v e = absurd (let z : _≡_ {A = ℕ} 0 2 = ap stateOf (sym e) in omega arith)
-into-good s (suc zero) room v e = absurd (let z : _≡_ {A = ℕ} 0 3 = ap stateOf (sym e) in omega arith)
+into-good s zero room v e = absurd (let z : _≡_ {A = ℕ} 0 2 = ap cellState (sym e) in omega arith)
+into-good s (suc zero) room v e = absurd (let z : _≡_ {A = ℕ} 0 3 = ap cellState (sym e) in omega arith)
 into-good s (suc (suc p)) room v e = good-parts room v (partsOf (shallowAt s (suc (suc p)))) e

@@ -6,14 +6,12 @@ pub mod Views
 pub mod Texts
 pub mod Octets
 pub mod Arrays
-pub mod Copies
 pub mod Runs
+pub mod Cells
 pub mod Intos
 pub mod Strings
-pub mod Places
+pub mod Positions
 pub mod Feeding
 pub mod Versions
-pub mod Families
-pub mod Settled
 pub mod Standing
 pub mod Trees

@@ -1,33 +1,26 @@
 -- Numbers under a kind: each law in the shape of a need of the code. A whole below 0 is -1 - k, and its 64 bits are those of k turned.
 -- Assumes nothing.
 use mathlib.Core.Path.{_≡_, refl, sym, ap, _∙_}
-use mathlib.Core.Bool.{Bool, true, false}
-use mathlib.Core.List.{List}
+use mathlib.Core.{Bool.Bool, Bool.true, Bool.false, List.List}
 use Prim.Native.Nat.{ℕ, suc, _+_, _-_, _/_, _%_, _^_, _≤_, _<_}
 use native.Mathlib.Omega.{arith}
-use lib.Dec.{T}
+use lib.{Dec.T, ListN.length, ListN.getD, Signed.ltZ, Signed.mag, Signed.nonNeg}
 use lib.IntN.{ℤ, pos, negsuc, natAbs, _-ℤ_}
 use lib.Ieee.{Float, binary64, ofBits, top, hid, ones}
-use lib.ListN.{length, getD}
-use lib.Signed.{ltZ, mag, nonNeg}
 use mir.Syntax.{w64}
 use mir.Val.{toZ, ofZ, SFits, Fits}
 use mir.ValLaws.{toZ-ofZ}
 use borrow.Author.Tests.{le-leb, lt-leb, le-ltb, ltb-true}
-use Rattle.element.specs.At.{leafAt}
-use Rattle.number.specs.declared.Number.{Number}
-use Rattle.number.specs.declared.Number.the-variants.{Signed, Unsigned, Real, Not}
-use Rattle.number.specs.Number.{numberOf, realBy}
-use Rattle.number.specs.Body.{given}
+use Rattle.element.specs.code.At.{leafAt}
+use Rattle.number.specs.declared.Number.{Number, the-variants.Signed, the-variants.Unsigned, the-variants.Real, the-variants.Not}
+use Rattle.number.specs.{Number.numberOf, Number.realBy, code.Body.given}
 use Rattle.number.proofs.Bodies.{given-is, real-none, real-is, no-nan}
 use Rattle.number.proofs.Reading.{past, small-is, unsigned-is, double-is, byte-wide}
 use Rattle.octets.specs.Number.{bigAt, isThere, ifThere}
 use Rattle.octets.proofs.Ranges.{true-false}
 use Rattle.field.specs.declared.Judged.{Judged}
-use Rattle.field.specs.Kind.{Kind}
-use Rattle.field.specs.Judge.{wholeIn, judge}
-use Rattle.field.specs.At.{shallowAt}
-use Rattle.field.specs.Read.{badly, well, tellOf, readAt, realValueIn}
+use Rattle.field.specs.{Kind.Kind, Judge.wholeIn, Judge.judge, code.At.shallowAt}
+use Rattle.field.specs.code.Read.{badly, well, tellOf, readAt, realValueIn}
 use Rattle.field.proofs.Shallow.{leaf-view}
 
 -- the number at a place is the leaf's

@@ -1,37 +1,25 @@
 -- A part of an array of bytes: a whole number from 0 to 255 in any form, and the place behind it. Each law in the shape of a need of the code.
 -- Assumes nothing.
 use mathlib.Core.Path.{_≡_, refl, sym, ap, ap₂, _∙_}
-use mathlib.Core.Bool.{Bool, true, false}
-use mathlib.Core.List.{List}
-use mathlib.Core.Option.{Option, some, none}
+use mathlib.Core.{Bool.Bool, Bool.true, Bool.false, List.List, Option.Option, Option.some, Option.none}
 use Prim.Native.Nat.{ℕ, _+_, _≤_, _<_}
 use native.Mathlib.Nat.{add-zero, zero-add}
 use native.Mathlib.Omega.{arith}
-use lib.Dec.{lit<}
-use lib.IntN.{ℤ}
-use lib.Ieee.{Float}
-use lib.ListN.{length, getD}
+use lib.{Dec.lit<, IntN.ℤ, Ieee.Float, ListN.length, ListN.getD}
 use mir.Syntax.{w8, w64}
 use mir.Val.{Fits}
 use borrow.Author.Tests.{le-leb, lt-leb}
 use Rattle.octets.specs.Number.{bigAt, isThere}
 use Rattle.octets.proofs.Reading.{inside}
 use Rattle.element.specs.declared.Shape.the-variants.{Plain}
-use Rattle.element.specs.Lead.{headOf, leadBytes, rowIn}
-use Rattle.element.specs.Form.{spanOf}
-use Rattle.element.specs.At.{leafAt}
-use Rattle.number.specs.declared.Number.{Number}
-use Rattle.number.specs.declared.Number.the-variants.{Signed, Unsigned, Real, Not}
-use Rattle.number.specs.Number.{numberOf}
-use Rattle.number.specs.Body.{given}
+use Rattle.element.specs.{Lead.headOf, Lead.leadBytes, Lead.rowIn, Form.spanOf, code.At.leafAt}
+use Rattle.number.specs.declared.Number.{Number, the-variants.Signed, the-variants.Unsigned, the-variants.Real, the-variants.Not}
+use Rattle.number.specs.{Number.numberOf, code.Body.given}
 use Rattle.number.proofs.Reading.{small-is, unsigned-is}
 use Rattle.walk.proofs.Leads.{row, says-low}
 use Rattle.field.specs.declared.Octet.the-variants.{Byte, Unfit}
-use Rattle.field.specs.Judge.{octetIn}
-use Rattle.field.specs.At.{endOf}
-use Rattle.field.specs.Item.{octetBy, octetAt}
-use Rattle.field.proofs.Shallow.{leaf-past}
-use Rattle.field.proofs.Heads.{plain-ends}
+use Rattle.field.specs.{Judge.octetIn, code.At.endOf, code.Item.octetBy, code.Item.octetAt}
+use Rattle.field.proofs.{Shallow.leaf-past, Heads.plain-ends}
 
 fits-octet : (n : ℕ) → n < 256 → octetIn (Unsigned n) ≡ some n
 fits-octet n h = simp (le-leb n 255 (omega arith))

@@ -1,23 +1,16 @@
 -- What stands at a place, as far as a kind looks: a view that arrays, maps and null do not have sees the leaf alone,
 -- and what it sees of a leaf is what it sees of the lead byte's class. Assumes nothing.
 use mathlib.Core.Path.{_≡_, refl, sym, ap, _∙_}
-use mathlib.Core.Bool.{Bool, true, false}
-use mathlib.Core.List.{List}
+use mathlib.Core.{Bool.Bool, Bool.true, Bool.false, List.List}
 use Prim.Native.Nat.{ℕ, _≤_, _<_}
-use lib.Dec.{ltb}
-use lib.ListN.{length, getD}
+use lib.{Dec.ltb, ListN.length, ListN.getD}
 use borrow.Author.Tests.{lt-ltb, le-ltb, ltb-true, ltb-false}
 use Rattle.octets.specs.Choice.{either}
-use Rattle.element.specs.declared.Span.{Span}
-use Rattle.element.specs.declared.Span.the-variants.{Cut, Ends, Holds}
-use Rattle.element.specs.Lead.{classOf}
-use Rattle.element.specs.Form.{spanOf}
-use Rattle.element.specs.Meaning.{Element, Elements, leafOf}
-use Rattle.element.specs.Meaning.Element.{null, list, table}
-use Rattle.element.specs.Meaning.Fields.{no-field}
-use Rattle.element.specs.At.{leafTo, leafAt}
+use Rattle.element.specs.declared.Span.{Span, the-variants.Cut, the-variants.Ends, the-variants.Holds}
+use Rattle.element.specs.{Lead.classOf, Form.spanOf, Meaning.Element, Meaning.Elements, Meaning.leafOf}
+use Rattle.element.specs.{Meaning.Element.null, Meaning.Element.list, Meaning.Element.table, Meaning.Fields.no-field, code.At.leafTo, code.At.leafAt}
 use Rattle.element.proofs.At.{by-span}
-use Rattle.field.specs.At.{shallowBy, shallowAt}
+use Rattle.field.specs.code.At.{shallowBy, shallowAt}
 
 module _ (s : List ℕ) (at : ℕ) where
   -- an element whose byte is there is read by its span

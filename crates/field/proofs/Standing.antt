@@ -4,25 +4,18 @@ use mathlib.Core.Path.{_≡_, ap, _∙_, subst}
 use mathlib.Core.List.{List, _∷_, _++_}
 use Prim.Native.Nat.{ℕ, _+_, _<_}
 use native.Mathlib.Omega.{arith}
-use lib.Dec.{lit<}
-use lib.ListN.{length, drop, length-append}
+use lib.{Dec.lit<, ListN.length, ListN.drop, ListN.length-append}
 use borrow.Author.Tests.{lt-ltb}
 use Rattle.octets.proofs.Places.{after-le}
-use Rattle.element.specs.declared.Shape.{Shape}
-use Rattle.element.specs.declared.Shape.the-variants.{Never, Array, Map}
-use Rattle.element.specs.declared.Span.{Span}
-use Rattle.element.specs.declared.Span.the-variants.{Ends}
-use Rattle.element.specs.Lead.{headOf}
-use Rattle.element.specs.Form.{Role, contentOf, spanOf}
-use Rattle.element.specs.Tree.{Trees, Pairs, bytesOf, bytesOfAll, bytesOfPairs, partsOf, pairsOf, Headed, IsBody, Lawful}
-use Rattle.element.specs.Tree.Tree.{leaf, array, map}
-use Rattle.element.specs.Meaning.{meaningOf}
-use Rattle.element.specs.Meaning.Element.{list, table}
-use Rattle.element.specs.Meaning.Fields.{no-field}
+use Rattle.element.specs.declared.Shape.{Shape, the-variants.Never, the-variants.Array, the-variants.Map}
+use Rattle.element.specs.declared.Span.{Span, the-variants.Ends}
+use Rattle.element.specs.{Lead.headOf, Form.Role, Form.contentOf, Form.spanOf, Tree.Tree.leaf, Tree.Tree.array, Tree.Tree.map, Meaning.meaningOf}
+use Rattle.element.specs.{Meaning.Element.list, Meaning.Element.table, Meaning.Fields.no-field}
+use Rattle.element.specs.Tree.{Trees, Pairs, bytesOf, bytesOfAll, bytesOfPairs, partCount, pairCount, Headed, IsBody, Lawful}
 use Rattle.element.proofs.Steps.{suits-value}
 use Rattle.element.proofs.Passed.{span-opens, leaf-content, array-never, map-never}
 use Rattle.element.proofs.At.{headed, there, behind, behind-le, leaf-at}
-use Rattle.field.specs.At.{endOf, leavesFrom, shallowBy, shallowAt}
+use Rattle.field.specs.code.At.{endOf, leavesFrom, shallowBy, shallowAt}
 
 -- an element whose byte is there is read by its span
 by-span : (s : List ℕ) (at : ℕ) (x : Span) → at < length s → spanOf s at ≡ x → shallowAt s at ≡ shallowBy s at x
@@ -55,9 +48,9 @@ module _ (s : List ℕ) (at b : ℕ) (l t : List ℕ) where
       ∙ leaf-at s at b l t d L e
 
   pub array-shallow : (ts : Trees) → Lawful (array b l ts) → drop at s ≡ bytesOf (array b l ts) ++ t
-      → shallowAt s at ≡ list (leavesFrom s (partsOf ts) (at + 1 + length l))
+      → shallowAt s at ≡ list (leavesFrom s (partCount ts) (at + 1 + length l))
   unfolding bytesOf Lawful
-  array-shallow ts L e = read s at b l (bytesOfAll ts) t e Array (partsOf ts) (L .0) array-never
+  array-shallow ts L e = read s at b l (bytesOfAll ts) t e Array (partCount ts) (L .0) array-never
 
   -- where the parts begin
   pub array-parts : (ts : Trees) → drop at s ≡ bytesOf (array b l ts) ++ t → drop (at + 1 + length l) s ≡ bytesOfAll ts ++ t
@@ -66,4 +59,4 @@ module _ (s : List ℕ) (at b : ℕ) (l t : List ℕ) where
 
   pub map-shallow : (ps : Pairs) → Lawful (map b l ps) → drop at s ≡ bytesOf (map b l ps) ++ t → shallowAt s at ≡ table no-field
   unfolding bytesOf Lawful
-  map-shallow ps L e = read s at b l (bytesOfPairs ps) t e Map (pairsOf ps) (L .0) map-never
+  map-shallow ps L e = read s at b l (bytesOfPairs ps) t e Map (pairCount ps) (L .0) map-never

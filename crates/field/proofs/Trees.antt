@@ -6,23 +6,17 @@ use mathlib.Core.List.{List, [], _∷_, _++_}
 use mathlib.Core.Option.{Option, some, none}
 use Prim.Native.Nat.{ℕ, zero, suc, _+_, _≤_}
 use native.Mathlib.Omega.{arith}
-use lib.Ieee.{Float}
-use lib.ListN.{length, drop}
+use lib.{Ieee.Float, ListN.length, ListN.drop}
 use Rattle.octets.proofs.Places.{after, append-assoc}
-use Rattle.element.specs.Tree.{Tree, Trees, bytesOf, bytesOfAll, partsOf, Lawful, LawfulAll}
-use Rattle.element.specs.Tree.Tree.{leaf, array, map}
+use Rattle.element.specs.Tree.{Tree, Trees, bytesOf, bytesOfAll, partCount, Lawful, LawfulAll}
+use Rattle.element.specs.{Tree.Tree.leaf, Tree.Tree.array, Tree.Tree.map, Meaning.Element.list, Meaning.Element.table}
+use Rattle.element.specs.{Meaning.Elements.no-more, Meaning.Elements.more, Meaning.Fields.no-field}
 use Rattle.element.specs.Meaning.{Elements, Fields, meaningOf, meaningOfAll, meaningOfPairs}
-use Rattle.element.specs.Meaning.Element.{list, table}
-use Rattle.element.specs.Meaning.Elements.{no-more, more}
-use Rattle.element.specs.Meaning.Fields.{no-field}
 use Rattle.element.proofs.At.{leaf-at, array-at, map-at}
-use Rattle.number.specs.declared.Number.{Number}
-use Rattle.number.specs.declared.Number.the-variants.{Not}
+use Rattle.number.specs.declared.Number.{Number, the-variants.Not}
 use Rattle.number.specs.Number.{numberOf}
-use Rattle.field.specs.Kind.{Kind}
-use Rattle.field.specs.Judge.{onSome, octetIn, realIn, octetsIn, realsIn, positionOf, sized, judge}
-use Rattle.field.specs.Cell.{Said, judged, cellOf}
-use Rattle.field.specs.At.{leavesFrom, shallowAt, cellAt}
+use Rattle.field.specs.{Kind.Kind, Cell.Said, Cell.judged, Cell.cellOf, code.At.leavesFrom, code.At.shallowAt, code.At.cellAt}
+use Rattle.field.specs.Judge.{onSome, octetIn, realIn, octetsIn, realsIn, threeOf, stringSized, judge}
 use Rattle.field.proofs.Standing.{leaf-end, leaf-shallow, array-shallow, array-parts, map-shallow}
 
 -- what every part of an array is, as a test on its number says; none where one part is not
@@ -37,8 +31,8 @@ module _ {A : Type 0} (pick : Number → Option A) where
   module _ (s : List ℕ) (stop : pick Not ≡ none) where
     -- the parts read as leaves give what the parts mean
     gathered-tree : (ts : Trees) (at : ℕ) (t : List ℕ) → LawfulAll ts → drop at s ≡ bytesOfAll ts ++ t
-        → gathered (leavesFrom s (partsOf ts) at) ≡ gathered (meaningOfAll ts)
-    unfolding gathered leavesFrom bytesOf Lawful partsOf meaningOf
+        → gathered (leavesFrom s (partCount ts) at) ≡ gathered (meaningOfAll ts)
+    unfolding gathered leavesFrom bytesOf Lawful partCount meaningOf
     gathered-tree Trees.none at t L e = refl
     gathered-tree (Trees.some (leaf b l d) ts) at t L e =
         let g = e ∙ append-assoc (bytesOf (leaf b l d)) (bytesOfAll ts) t in
@@ -63,10 +57,10 @@ reals-gathered no-more = refl
 reals-gathered (more e es) = ap (joined realIn (realIn (numberOf e))) (reals-gathered es)
 
 module _ (ts : Trees) (s : List ℕ) (at : ℕ) (t : List ℕ) (L : LawfulAll ts) (e : drop at s ≡ bytesOfAll ts ++ t) where
-  pub octets-tree : octetsIn (leavesFrom s (partsOf ts) at) ≡ octetsIn (meaningOfAll ts)
+  pub octets-tree : octetsIn (leavesFrom s (partCount ts) at) ≡ octetsIn (meaningOfAll ts)
   octets-tree = octets-gathered _ ∙ gathered-tree octetIn s refl ts at t L e ∙ sym (octets-gathered _)
 
-  pub reals-tree : realsIn (leavesFrom s (partsOf ts) at) ≡ realsIn (meaningOfAll ts)
+  pub reals-tree : realsIn (leavesFrom s (partCount ts) at) ≡ realsIn (meaningOfAll ts)
   reals-tree = reals-gathered _ ∙ gathered-tree realIn s refl ts at t L e ∙ sym (reals-gathered _)
 
 -- a kind looks at an array only for the bytes or the reals that its parts are
@@ -75,8 +69,8 @@ unfolding judge
 judge-list (Kind.wholes lo hi) es fs o r = refl
 judge-list Kind.reals es fs o r = refl
 judge-list Kind.flags es fs o r = refl
-judge-list Kind.places es fs o r = ap (λ (x : Option (List Float)). onSome x positionOf) r
-judge-list (Kind.arrays lo hi) es fs o r = ap (λ (x : Option (List ℕ)). onSome x (sized lo hi)) o
+judge-list Kind.positions es fs o r = ap (λ (x : Option (List Float)). onSome x threeOf) r
+judge-list (Kind.arrays lo hi) es fs o r = ap (λ (x : Option (List ℕ)). onSome x (stringSized lo hi)) o
 judge-list (Kind.texts lo hi) es fs o r = refl
 judge-list Kind.versions es fs o r = refl
 judge-list Kind.words es fs o r = refl
@@ -88,7 +82,7 @@ unfolding judge
 judge-table (Kind.wholes lo hi) fs gs = refl
 judge-table Kind.reals fs gs = refl
 judge-table Kind.flags fs gs = refl
-judge-table Kind.places fs gs = refl
+judge-table Kind.positions fs gs = refl
 judge-table (Kind.arrays lo hi) fs gs = refl
 judge-table (Kind.texts lo hi) fs gs = refl
 judge-table Kind.versions fs gs = refl
@@ -102,7 +96,7 @@ judge-tree k (leaf b l d) s at t L e = ap (judge k) (leaf-shallow s at b l t d L
 judge-tree k (array b l ts) s at t L e =
     let p = array-parts s at b l t ts e in
     ap (judge k) (array-shallow s at b l t ts L e)
-    ∙ judge-list k (leavesFrom s (partsOf ts) (at + 1 + length l)) (meaningOfAll ts)
+    ∙ judge-list k (leavesFrom s (partCount ts) (at + 1 + length l)) (meaningOfAll ts)
     (octets-tree ts s (at + 1 + length l) t (L .1) p) (reals-tree ts s (at + 1 + length l) t (L .1) p)
 judge-tree k (map b l ps) s at t L e = ap (judge k) (map-shallow s at b l t ps L e) ∙ judge-table k no-field (meaningOfPairs ps)
 

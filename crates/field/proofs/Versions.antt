@@ -13,8 +13,8 @@ use Rattle.octets.specs.Choice.{either}
 use Rattle.octets.proofs.Ranges.{true-false}
 use Rattle.field.specs.declared.Fed.the-variants.{On, Off}
 use Rattle.field.specs.Kind.{Value}
-use Rattle.field.specs.Version.{grown, partsOf, digitsFrom, atMost, numberOfPart, released, three, versionOf}
-use Rattle.field.specs.Feed.{release, blank, dotBy, dottedOf, digitOf, fedOf, onFed, fedAll, outcomeOf}
+use Rattle.field.specs.Version.{grown, cutAtDots, digitsFrom, atMost, numberOfPart, released, three, versionOf}
+use Rattle.field.specs.code.Feed.{release, unfed, dotBy, dottedOf, digitOf, fedOf, onFed, fedAll, outcomeOf}
 
 -- digits
 abbrev isDigit : ℕ → Bool
@@ -93,10 +93,10 @@ behind pre (p ∷ ps) = (pre ++ p) ∷ ps
 data Some : List (List ℕ) → Type 0 where
   parts : (p : List ℕ) (ps : List (List ℕ)) → Some (p ∷ ps)
 
-some-part : (cs : List ℕ) → Some (partsOf cs)
-unfolding partsOf
+some-part : (cs : List ℕ) → Some (cutAtDots cs)
+unfolding cutAtDots
 some-part [] = parts [] []
-some-part (c ∷ cs) = go (eqb c 0x2E) (partsOf cs) (some-part cs)
+some-part (c ∷ cs) = go (eqb c 0x2E) (cutAtDots cs) (some-part cs)
   where
     go : (t : Bool) (l : List (List ℕ)) → Some l → Some (either t (λ _. [] ∷ l) (λ _. grown c l))
     go true l y = parts [] l
@@ -112,7 +112,7 @@ behind-more pre c l (parts p ps) = ap (λ (x : List ℕ). x ∷ ps) (sym (append
 abbrev Ends : List ℕ → Type 0
 Ends cs =
     (ds : List (List ℕ)) (pre : List ℕ) (k : ℕ) (g : Bool) (a b n : ℕ) → Done ds k a b → Current pre g n
-    → outcomeOf (fedAll (release k g a b n) cs) ≡ three (ds ++ behind pre (partsOf cs))
+    → outcomeOf (fedAll (release k g a b n) cs) ≡ three (ds ++ behind pre (cutAtDots cs))
 
 -- no byte is left
 ends-third : (g : Bool) (pre : List ℕ) (a b n : ℕ) → Current pre g n → either g (λ _. some (Value.release a b n)) (λ _. none) ≡ released (some a) (some b) (numberOfPart pre)
@@ -126,20 +126,20 @@ ends-now ds pre k g a b n (first p x e) y = refl
 ends-now ds pre k g a b n (second p q x z e f) y = rw (e, f) (ends-third g pre x z n y)
 
 -- a dot behind a number, by how many parts are before it
-dot-ends : (cs : List ℕ) → Ends cs → (ds : List (List ℕ)) (pre : List ℕ) (k a b n : ℕ) → Done ds k a b → numberOfPart pre ≡ some n → outcomeOf (onFed (dotBy (release k true a b n) k) (λ w. fedAll w cs)) ≡ three (ds ++ (pre ∷ partsOf cs))
+dot-ends : (cs : List ℕ) → Ends cs → (ds : List (List ℕ)) (pre : List ℕ) (k a b n : ℕ) → Done ds k a b → numberOfPart pre ≡ some n → outcomeOf (onFed (dotBy (release k true a b n) k) (λ w. fedAll w cs)) ≡ three (ds ++ (pre ∷ cutAtDots cs))
 dot-ends cs ih ds pre k a b n nothing e =
-    ih (pre ∷ []) [] 1 false n 0 0 (first pre n e) fresh ∙ ap (λ (l : List (List ℕ)). three (pre ∷ l)) (behind-none (partsOf cs) (some-part cs))
+    ih (pre ∷ []) [] 1 false n 0 0 (first pre n e) fresh ∙ ap (λ (l : List (List ℕ)). three (pre ∷ l)) (behind-none (cutAtDots cs) (some-part cs))
 dot-ends cs ih ds pre k a b n (first p x f) e =
     ih (p ∷ (pre ∷ [])) [] 2 false x n 0 (second p pre x n f e) fresh
-    ∙ ap (λ (l : List (List ℕ)). three (p ∷ (pre ∷ l))) (behind-none (partsOf cs) (some-part cs))
-dot-ends cs ih ds pre k a b n (second p q x z f g) e = go (partsOf cs) (some-part cs)
+    ∙ ap (λ (l : List (List ℕ)). three (p ∷ (pre ∷ l))) (behind-none (cutAtDots cs) (some-part cs))
+dot-ends cs ih ds pre k a b n (second p q x z f g) e = go (cutAtDots cs) (some-part cs)
   where
     go : (l : List (List ℕ)) → Some l → none ≡ three (p ∷ (q ∷ (pre ∷ l)))
     go l (parts r rs) = refl
 
-after-dot : (cs : List ℕ) → Ends cs → (ds : List (List ℕ)) (pre : List ℕ) (k : ℕ) (g : Bool) (a b n : ℕ) → Done ds k a b → Current pre g n → outcomeOf (onFed (dottedOf (release k g a b n)) (λ w. fedAll w cs)) ≡ three (ds ++ (pre ∷ partsOf cs))
+after-dot : (cs : List ℕ) → Ends cs → (ds : List (List ℕ)) (pre : List ℕ) (k : ℕ) (g : Bool) (a b n : ℕ) → Done ds k a b → Current pre g n → outcomeOf (onFed (dottedOf (release k g a b n)) (λ w. fedAll w cs)) ≡ three (ds ++ (pre ∷ cutAtDots cs))
 unfolding dottedOf
-after-dot cs ih ds pre k g a b n D fresh = sym (no-part ds k a b D [] (partsOf cs) refl)
+after-dot cs ih ds pre k g a b n D fresh = sym (no-part ds k a b D [] (cutAtDots cs) refl)
 after-dot cs ih ds pre k g a b n D naught = dot-ends cs ih ds (0x30 ∷ []) k a b 0 D (current-number (0x30 ∷ []) 0 naught)
 after-dot cs ih ds pre k g a b n D (number c l m h e p w) =
     dot-ends cs ih ds (c ∷ l) k a b m D (current-number (c ∷ l) m (number c l m h e p w))
@@ -153,8 +153,8 @@ other-part pre g n c p (number x xs m h e q l) t =
     ∙ ap (atMost 65535) (digits-join 0 (x ∷ xs) (c ∷ p) ∙ ap (λ (o : Option ℕ). andThen o (λ i. digitsFrom i (c ∷ p))) e ∙ no-digit m c p t)
 
 -- so does a part that is no number with this byte
-bad-part : (cs : List ℕ) (ds : List (List ℕ)) (pre : List ℕ) (k a b c : ℕ) → Done ds k a b → ((p : List ℕ) → numberOfPart (pre ++ (c ∷ p)) ≡ none) → none ≡ three (ds ++ behind pre (grown c (partsOf cs)))
-bad-part cs ds pre k a b c D h = go (partsOf cs) (some-part cs)
+bad-part : (cs : List ℕ) (ds : List (List ℕ)) (pre : List ℕ) (k a b c : ℕ) → Done ds k a b → ((p : List ℕ) → numberOfPart (pre ++ (c ∷ p)) ≡ none) → none ≡ three (ds ++ behind pre (grown c (cutAtDots cs)))
+bad-part cs ds pre k a b c D h = go (cutAtDots cs) (some-part cs)
   where
     go : (l : List (List ℕ)) → Some l → none ≡ three (ds ++ behind pre (grown c l))
     go l (parts p ps) = sym (no-part ds k a b D (pre ++ (c ∷ p)) ps (h p))
@@ -192,39 +192,39 @@ over-part x xs m c p h e t w =
     (digits-join 0 (x ∷ xs) (c ∷ p) ∙ ap (λ (o : Option ℕ). andThen o (λ i. digitsFrom i (c ∷ p))) e ∙ one-digit m c p t)
     ∙ too-large 65535 (m * 10 + (c - 0x30)) p w
 
-after-digit : (cs : List ℕ) → Ends cs → (ds : List (List ℕ)) (pre : List ℕ) (k : ℕ) (g : Bool) (a b n c : ℕ) → Done ds k a b → Current pre g n → isDigit c ≡ true → outcomeOf (onFed (digitOf (release k g a b n) (c - 0x30)) (λ w. fedAll w cs)) ≡ three (ds ++ behind pre (grown c (partsOf cs)))
+after-digit : (cs : List ℕ) → Ends cs → (ds : List (List ℕ)) (pre : List ℕ) (k : ℕ) (g : Bool) (a b n c : ℕ) → Done ds k a b → Current pre g n → isDigit c ≡ true → outcomeOf (onFed (digitOf (release k g a b n) (c - 0x30)) (λ w. fedAll w cs)) ≡ three (ds ++ behind pre (grown c (cutAtDots cs)))
 unfolding digitOf
 after-digit cs ih ds pre k g a b n c D fresh t =
     let d = is-digit c t in
     simp (le-leb (0 * 10 + (c - 0x30)) 65535 (omega arith))
     (ih ds (c ∷ []) k true a b (0 * 10 + (c - 0x30)) D (first-digit c t)
-    ∙ ap (λ (l : List (List ℕ)). three (ds ++ l)) (sym (behind-more [] c (partsOf cs) (some-part cs))))
+    ∙ ap (λ (l : List (List ℕ)). three (ds ++ l)) (sym (behind-more [] c (cutAtDots cs) (some-part cs))))
 after-digit cs ih ds pre k g a b n c D naught t = bad-part cs ds (0x30 ∷ []) k a b c D (λ p. refl)
 after-digit cs ih ds pre k g a b n c D (number x xs m h e p l) t =
     simp (ne-eqb m 0 (λ z. omega arith)) (go (leb (m * 10 + (c - 0x30)) 65535) refl)
   where
-    go : (u : Bool) → leb (m * 10 + (c - 0x30)) 65535 ≡ u → outcomeOf (onFed (either u (λ _. On (release k true a b (m * 10 + (c - 0x30)))) (λ _. Off)) (λ w. fedAll w cs)) ≡ three (ds ++ behind (x ∷ xs) (grown c (partsOf cs)))
+    go : (u : Bool) → leb (m * 10 + (c - 0x30)) 65535 ≡ u → outcomeOf (onFed (either u (λ _. On (release k true a b (m * 10 + (c - 0x30)))) (λ _. Off)) (λ w. fedAll w cs)) ≡ three (ds ++ behind (x ∷ xs) (grown c (cutAtDots cs)))
     go true f =
         ih ds ((x ∷ xs) ++ (c ∷ [])) k true a b (m * 10 + (c - 0x30)) D
         (next-digit x xs m c h e p t (leb-true (m * 10 + (c - 0x30)) 65535 f))
-        ∙ ap (λ (l : List (List ℕ)). three (ds ++ l)) (sym (behind-more (x ∷ xs) c (partsOf cs) (some-part cs)))
+        ∙ ap (λ (l : List (List ℕ)). three (ds ++ l)) (sym (behind-more (x ∷ xs) c (cutAtDots cs) (some-part cs)))
     go false f = bad-part cs ds (x ∷ xs) k a b c D (λ q. over-part x xs m c q h e t (leb-false (m * 10 + (c - 0x30)) 65535 f))
 
 -- one byte, by what it is
 after : (c : ℕ) (cs : List ℕ) → Ends cs → Ends (c ∷ cs)
-unfolding fedAll fedOf partsOf
+unfolding fedAll fedOf cutAtDots
 after c cs ih ds pre k g a b n D y = go (eqb c 0x2E) (isDigit c) refl
   where
-    go : (t u : Bool) → isDigit c ≡ u → outcomeOf (onFed (either t (λ _. dottedOf (release k g a b n)) (λ _. either u (λ _. digitOf (release k g a b n) (c - 0x30)) (λ _. Off))) (λ w. fedAll w cs)) ≡ three (ds ++ behind pre (either t (λ _. [] ∷ partsOf cs) (λ _. grown c (partsOf cs))))
-    go true u e = after-dot cs ih ds pre k g a b n D y ∙ ap (λ (p : List ℕ). three (ds ++ (p ∷ partsOf cs))) (sym (append-nil pre))
+    go : (t u : Bool) → isDigit c ≡ u → outcomeOf (onFed (either t (λ _. dottedOf (release k g a b n)) (λ _. either u (λ _. digitOf (release k g a b n) (c - 0x30)) (λ _. Off))) (λ w. fedAll w cs)) ≡ three (ds ++ behind pre (either t (λ _. [] ∷ cutAtDots cs) (λ _. grown c (cutAtDots cs))))
+    go true u e = after-dot cs ih ds pre k g a b n D y ∙ ap (λ (p : List ℕ). three (ds ++ (p ∷ cutAtDots cs))) (sym (append-nil pre))
     go false true e = after-digit cs ih ds pre k g a b n c D y e
     go false false e = bad-part cs ds pre k a b c D (λ p. other-part pre g n c p y e)
 
 ends : (cs : List ℕ) → Ends cs
-unfolding fedAll partsOf
+unfolding fedAll cutAtDots
 ends [] ds pre k g a b n D y = ends-now ds pre k g a b n D y ∙ ap (λ (p : List ℕ). three (ds ++ (p ∷ []))) (sym (append-nil pre))
 ends (c ∷ cs) ds pre k g a b n D y = after c cs (ends cs) ds pre k g a b n D y
 
-pub version-is : (d : List ℕ) → outcomeOf (fedAll blank d) ≡ versionOf d
+pub version-is : (d : List ℕ) → outcomeOf (fedAll unfed d) ≡ versionOf d
 unfolding versionOf
-version-is d = ends d [] [] 0 false 0 0 0 nothing fresh ∙ ap three (behind-none (partsOf d) (some-part d))
+version-is d = ends d [] [] 0 false 0 0 0 nothing fresh ∙ ap three (behind-none (cutAtDots d) (some-part d))

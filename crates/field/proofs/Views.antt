@@ -1,30 +1,19 @@
 -- What the head at a place says of the element there: an array's parts, a map's presence. No leaf is an array or a map. Assumes nothing.
 use mathlib.Core.Path.{_≡_, refl, sym, ap, _∙_}
-use mathlib.Core.Bool.{Bool, true, false}
-use mathlib.Core.List.{List}
+use mathlib.Core.{Bool.Bool, Bool.true, Bool.false, List.List}
 use Prim.Native.Nat.{ℕ, _+_, _-_}
 use native.Mathlib.Omega.{arith}
-use lib.Dec.{leb}
-use lib.ListN.{length, getD}
+use lib.{Dec.leb, ListN.length, ListN.getD}
 use Rattle.octets.specs.Choice.{either}
-use Rattle.element.specs.declared.Shape.{Shape}
-use Rattle.element.specs.declared.Shape.the-variants.{Never, Plain, Text, Array, Map}
+use Rattle.element.specs.declared.Shape.{Shape, the-variants.Never, the-variants.Plain, the-variants.Text, the-variants.Array, the-variants.Map}
 use Rattle.element.specs.declared.Span.the-variants.{Cut, Ends}
-use Rattle.element.specs.Lead.{Class, classOf, headOf}
-use Rattle.element.specs.Form.{isMap, bodyOf, contentOf}
-use Rattle.element.specs.Meaning.{Element, leafOf}
-use Rattle.element.specs.Meaning.Element.{null, list, table}
-use Rattle.element.specs.Meaning.Fields.{no-field}
-use Rattle.element.specs.At.{leafAt}
-use Rattle.field.specs.declared.Judged.{Judged}
-use Rattle.field.specs.declared.Opened.{Opened}
-use Rattle.field.specs.Kind.{Kind, Value}
-use Rattle.field.specs.Judge.{when, isTable, judge}
-use Rattle.field.specs.At.{leavesFrom, shallowBy, shallowAt}
-use Rattle.field.specs.Read.{badly, well, tellOf, readAt}
-use Rattle.field.specs.Part.{openedAt}
-use Rattle.field.proofs.Shallow.{by-shallow, shallow-cut, leaf-all}
-use Rattle.field.proofs.Heads.{by-opened}
+use Rattle.element.specs.{Lead.Class, Lead.classOf, Lead.headOf, Form.isMap, Form.bodyOf, Form.contentOf, Meaning.Element, Meaning.leafOf}
+use Rattle.element.specs.{Meaning.Element.null, Meaning.Element.list, Meaning.Element.table, Meaning.Fields.no-field, code.At.leafAt}
+use Rattle.field.specs.declared.{Judged.Judged, Opened.Opened}
+use Rattle.field.specs.{Kind.Kind, Kind.Value, Judge.when, Judge.isTable, Judge.judge, code.At.leavesFrom, code.At.shallowBy, code.At.shallowAt}
+use Rattle.field.specs.{code.Extent.openedAt}
+use Rattle.field.specs.code.Read.{badly, well, tellOf, readAt}
+use Rattle.field.proofs.{Shallow.by-shallow, Shallow.shallow-cut, Shallow.leaf-all, Heads.by-opened}
 
 -- what a view sees that sees all leaves as x
 abbrev pub seen : {A : Type 0} → (Element → A) → A → List ℕ → Shape → ℕ → ℕ → A

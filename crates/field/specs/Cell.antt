@@ -1,15 +1,11 @@
 -- What an outer map says of a key, and what that is worth under a kind.
-use Prim.Native.Nat.{ℕ, suc, _+_, _-_, _*_, _^_}
-use mathlib.Core.Bool.{Bool, true, false}
-use mathlib.Core.List.{List, [], _∷_}
-use mathlib.Core.Option.{Option, some, none}
-use lib.IntN.{ℤ, pos, negsuc}
-use lib.Ieee.{Float, binary64, ofBits}
-use lib.ListN.{length}
+use Prim.Native.Nat.{ℕ}
+use mathlib.Core.{Bool.Bool, Bool.true, Bool.false, List.List, List.[], List._∷_, Option.Option, Option.some, Option.none}
+use lib.{IntN.ℤ, IntN.pos, Ieee.Float, Ieee.binary64, Ieee.ofBits, ListN.length, ListN.getD}
+use Rattle.octets.specs.Signed.{bitsOf}
 use Rattle.element.specs.Meaning.{Element}
-use Rattle.field.specs.Kind.{Kind, Value}
-use Rattle.field.specs.Judge.{judge}
-use Rattle.field.specs.declared.Judged.{Judged}
+use Rattle.field.specs.{Kind.Kind, Kind.Value, Judge.judge}
+use Rattle.field.specs.declared.Position.{Position}
 
 -- a key stands nowhere, once with an element, or more often
 pub data Said : Type 0 where
@@ -30,44 +26,66 @@ cellOf k Said.absent = Cell.missing
 cellOf k (Said.once e) = judged (judge k e)
 cellOf k Said.twice = Cell.double
 
--- how grave a cell is: 0 good, 1 invalid (15), 2 missing (14), 3 a key twice (13)
-abbrev pub stateOf : Cell → ℕ
-stateOf Cell.missing = 2
-stateOf Cell.double = 3
-stateOf Cell.bad = 1
-stateOf (Cell.good v) = 0
+-- the value of a cell, and whether it has one
+abbrev pub valueIn : Cell → Value
+valueIn Cell.missing = Value.nothing
+valueIn Cell.double = Value.nothing
+valueIn Cell.bad = Value.nothing
+valueIn (Cell.good v) = v
 
--- the 64 bits of a signed number
-abbrev pub bitsOf : ℤ → ℕ
-bitsOf (pos n) = n
-bitsOf (negsuc k) = 2 ^ 64 - suc k
+abbrev pub here : Cell → Bool
+here Cell.missing = false
+here Cell.double = false
+here Cell.bad = false
+here (Cell.good v) = true
 
--- a value as 64 bits: a number, a mark, how many bytes, or a version's three numbers; 0 for the others
+-- a value as 64 bits: a number, a mark, or how many bytes; 0 for the others
 abbrev pub wordOf : Value → ℕ
 wordOf Value.nothing = 0
-wordOf (Value.number z) = bitsOf z
+wordOf (Value.number z) = bitsOf 64 z
 wordOf (Value.figure x) = 0
 wordOf (Value.mark true) = 1
 wordOf (Value.mark false) = 0
 wordOf (Value.position x y z) = 0
 wordOf (Value.string d) = length d
-wordOf (Value.release a b c) = a * 2 ^ 32 + b * 2 ^ 16 + c
+wordOf (Value.release a b c) = 0
 
 abbrev pub zero64 : Float
 zero64 = ofBits binary64 0
 
-abbrev pub figureOf : Value → Float
-figureOf Value.nothing = zero64
-figureOf (Value.number z) = zero64
-figureOf (Value.figure x) = x
-figureOf (Value.mark b) = zero64
-figureOf (Value.position x y z) = zero64
-figureOf (Value.string d) = zero64
-figureOf (Value.release a b c) = zero64
+abbrev pub located : Float → Float → Float → Position
+located x y z = record { latitude = x; longitude = y; altitude = z }
 
--- a cell as the code hands it on: zero where there is no value
-abbrev pub toldOf : Cell → Judged
-toldOf Cell.missing = record { state = 2; word = 0; figure = zero64 }
-toldOf Cell.double = record { state = 3; word = 0; figure = zero64 }
-toldOf Cell.bad = record { state = 1; word = 0; figure = zero64 }
-toldOf (Cell.good v) = record { state = 0; word = wordOf v; figure = figureOf v }
+abbrev pub origin : Position
+origin = located zero64 zero64 zero64
+
+-- a value as each sort of part that a record has: itself as its own sort, zero as the others
+pub record Views : Type 0 where
+  pub number : ℤ
+  pub figure : Float
+  pub mark : Bool
+  pub position : Position
+  pub string : List ℕ
+  pub release : List ℕ
+
+abbrev pub views : ℤ → Float → Bool → Position → List ℕ → List ℕ → Views
+views z x b p d r = record { number = z; figure = x; mark = b; position = p; string = d; release = r }
+
+abbrev pub viewsOf : Value → Views
+viewsOf Value.nothing = views (pos 0) zero64 false origin [] []
+viewsOf (Value.number z) = views z zero64 false origin [] []
+viewsOf (Value.figure x) = views (pos 0) x false origin [] []
+viewsOf (Value.mark b) = views (pos 0) zero64 b origin [] []
+viewsOf (Value.position x y z) = views (pos 0) zero64 false (located x y z) [] []
+viewsOf (Value.string d) = views (pos 0) zero64 false origin d []
+viewsOf (Value.release a b c) = views (pos 0) zero64 false origin [] (a ∷ (b ∷ (c ∷ [])))
+
+abbrev pub figureOf : Value → Float
+figureOf v = viewsOf v .figure
+
+abbrev pub positionOf : Value → Position
+positionOf v = viewsOf v .position
+
+-- the i-th of a version's three numbers
+abbrev pub numberIn : ℕ → Cell → ℕ
+numberIn i c = getD (viewsOf (valueIn c) .release) i 0

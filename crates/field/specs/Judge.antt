@@ -1,21 +1,14 @@
 -- What an element is worth under a kind: its value, or none where it is invalid (document 01's 15).
 use Prim.Native.Nat.{ℕ, suc}
 use mathlib.Core.Bool.{Bool, true, false, _&&_}
-use mathlib.Core.List.{List, [], _∷_}
-use mathlib.Core.Option.{Option, some, none}
-use lib.Dec.{leb}
-use lib.IntN.{ℤ, pos, negsuc}
-use lib.ListN.{length}
-use lib.Ieee.{Float}
+use mathlib.Core.{List.List, List.[], List._∷_, Option.Option, Option.some, Option.none}
+use lib.{Dec.leb, IntN.ℤ, IntN.pos, IntN.negsuc, ListN.length, Ieee.Float}
 use Rattle.octets.specs.Choice.{either}
-use Rattle.element.specs.Meaning.{Element, Elements, Fields}
+use Rattle.element.specs.{Meaning.Element, Meaning.Elements, Meaning.Elements.no-more, Meaning.Elements.more}
 use Rattle.element.specs.Meaning.Element.{null, truth, whole, single, double, text, octets, typed, list, table}
-use Rattle.element.specs.Meaning.Elements.{no-more, more}
-use Rattle.number.specs.declared.Number.{Number}
-use Rattle.number.specs.declared.Number.the-variants.{Signed, Unsigned, Real, Not}
+use Rattle.number.specs.declared.Number.{Number, the-variants.Signed, the-variants.Unsigned, the-variants.Real, the-variants.Not}
 use Rattle.number.specs.Number.{numberOf}
-use Rattle.field.specs.Kind.{Kind, Value}
-use Rattle.field.specs.Version.{versionOf}
+use Rattle.field.specs.{Kind.Kind, Kind.Value, Version.versionOf}
 
 abbrev pub when : Bool → Value → Option Value
 when b v = either b (λ _. some v) (λ _. none)
@@ -107,24 +100,25 @@ unfoldable pub realsIn : Elements → Option (List Float)
 realsIn no-more = some []
 realsIn (more e es) = onSome (realIn (numberOf e)) (λ x. onSome (realsIn es) (λ xs. some (x ∷ xs)))
 
-abbrev pub positionOf : List Float → Option Value
-positionOf [] = none
-positionOf (x ∷ []) = none
-positionOf (x ∷ (y ∷ [])) = none
-positionOf (x ∷ (y ∷ (z ∷ []))) = some (Value.position x y z)
-positionOf (x ∷ (y ∷ (z ∷ (w ∷ rest)))) = none
+-- three of them, and no fewer or more
+abbrev pub threeOf : List Float → Option Value
+threeOf [] = none
+threeOf (x ∷ []) = none
+threeOf (x ∷ (y ∷ [])) = none
+threeOf (x ∷ (y ∷ (z ∷ []))) = some (Value.position x y z)
+threeOf (x ∷ (y ∷ (z ∷ (w ∷ rest)))) = none
 
 -- so many to so many bytes
-abbrev pub sized : ℕ → ℕ → List ℕ → Option Value
-sized lo hi d = when (leb lo (length d) && leb (length d) hi) (Value.string d)
+abbrev pub stringSized : ℕ → ℕ → List ℕ → Option Value
+stringSized lo hi d = when (leb lo (length d) && leb (length d) hi) (Value.string d)
 
 unfoldable pub judge : Kind → Element → Option Value
 judge (Kind.wholes lo hi) e = wholeIn lo hi (numberOf e)
 judge Kind.reals e = onSome (realIn (numberOf e)) (λ x. some (Value.figure x))
 judge Kind.flags e = onSome (truthOf e) (λ b. some (Value.mark b))
-judge Kind.places e = onSome (partsOf e) (λ es. onSome (realsIn es) positionOf)
-judge (Kind.arrays lo hi) e = onSome (partsOf e) (λ es. onSome (octetsIn es) (sized lo hi))
-judge (Kind.texts lo hi) e = onSome (textOf e) (sized lo hi)
+judge Kind.positions e = onSome (partsOf e) (λ es. onSome (realsIn es) threeOf)
+judge (Kind.arrays lo hi) e = onSome (partsOf e) (λ es. onSome (octetsIn es) (stringSized lo hi))
+judge (Kind.texts lo hi) e = onSome (textOf e) (stringSized lo hi)
 judge Kind.versions e = onSome (textOf e) versionOf
 judge Kind.words e = onSome (textOf e) (λ d. some Value.nothing)
 judge Kind.maps e = when (isTable e) Value.nothing

@@ -1,9 +1,7 @@
 -- Document 01, "Commands" and "Ranges": the kinds of values that fields have, and the values that a record keeps.
-use Prim.Native.Nat.{ℕ, zero, suc}
-use mathlib.Core.Bool.{Bool}
-use mathlib.Core.List.{List, [], _∷_}
-use lib.IntN.{ℤ}
-use lib.Ieee.{Float}
+use Prim.Native.Nat.{ℕ}
+use mathlib.Core.{Bool.Bool, List.List}
+use lib.{IntN.ℤ, Ieee.Float}
 
 pub data Kind : Type 0 where
   -- a whole number from minus the first to the second
@@ -12,7 +10,7 @@ pub data Kind : Type 0 where
   reals : Kind
   flags : Kind
   -- an array of three finite reals
-  places : Kind
+  positions : Kind
   -- an array of so many to so many numbers from 0 to 255
   arrays : ℕ → ℕ → Kind
   -- a text of so many to so many bytes
@@ -31,35 +29,43 @@ pub data Value : Type 0 where
   string : List ℕ → Value
   release : ℕ → ℕ → ℕ → Value
 
--- the kinds that document 01 has, each by its place here
-unfoldable pub kinds : List Kind
-kinds =
-    Kind.words ∷
-    Kind.wholes 0x8000000000000000 0x7FFFFFFFFFFFFFFF ∷
-    Kind.wholes 0 0xFFFFFFFFFFFFFFFF ∷
-    Kind.wholes 0 0xFFFFFFFF ∷
-    Kind.wholes 0 0xFFFF ∷
-    Kind.wholes 0 0xFF ∷
-    Kind.wholes 0x80000000 0x7FFFFFFF ∷
-    Kind.wholes 0 0x7FFFFFFFFFFFFFFF ∷
-    Kind.wholes 0x8000000000000000 0 ∷
-    Kind.flags ∷
-    Kind.reals ∷
-    Kind.places ∷
-    Kind.arrays 16 16 ∷
-    Kind.arrays 4 4 ∷
-    Kind.arrays 0 245 ∷
-    Kind.texts 1 16 ∷
-    Kind.texts 0 64 ∷
-    Kind.versions ∷
-    Kind.maps ∷
-    []
+-- the ranges of document 01, by name: whole numbers
+abbrev pub signed64 : Kind
+signed64 = Kind.wholes 0x8000000000000000 0x7FFFFFFFFFFFFFFF
 
--- the kind with a number; a number without one is that of a map
-unfoldable pub kindIn : List Kind → ℕ → Kind
-kindIn [] n = Kind.maps
-kindIn (k ∷ ks) zero = k
-kindIn (k ∷ ks) (suc n) = kindIn ks n
+abbrev pub unsigned64 : Kind
+unsigned64 = Kind.wholes 0 0xFFFFFFFFFFFFFFFF
 
-abbrev pub kindOf : ℕ → Kind
-kindOf n = kindIn kinds n
+abbrev pub unsigned32 : Kind
+unsigned32 = Kind.wholes 0 0xFFFFFFFF
+
+abbrev pub unsigned16 : Kind
+unsigned16 = Kind.wholes 0 0xFFFF
+
+abbrev pub unsigned8 : Kind
+unsigned8 = Kind.wholes 0 0xFF
+
+abbrev pub signed32 : Kind
+signed32 = Kind.wholes 0x80000000 0x7FFFFFFF
+
+abbrev pub stationId : Kind
+stationId = Kind.wholes 0 0x7FFFFFFFFFFFFFFF
+
+abbrev pub centreId : Kind
+centreId = Kind.wholes 0x8000000000000000 0
+
+-- arrays of bytes, and texts
+abbrev pub bytes16 : Kind
+bytes16 = Kind.arrays 16 16
+
+abbrev pub bytes4 : Kind
+bytes4 = Kind.arrays 4 4
+
+abbrev pub userBytes : Kind
+userBytes = Kind.arrays 0 245
+
+abbrev pub profileText : Kind
+profileText = Kind.texts 1 16
+
+abbrev pub statusText : Kind
+statusText = Kind.texts 0 64

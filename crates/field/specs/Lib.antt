@@ -2,9 +2,4 @@ pub mod Kind
 pub mod Version
 pub mod Judge
 pub mod Cell
-pub mod At
-pub mod Into
-pub mod Read
-pub mod Part
-pub mod Item
-pub mod Feed
+pub mod code

@@ -1,8 +1,6 @@
 -- Document 01: a version is three decimal numbers 0 to 65,535 joined by dots, no leading zero.
 use Prim.Native.Nat.{ℕ, _+_, _-_, _*_}
-use mathlib.Core.Bool.{Bool, _&&_}
-use mathlib.Core.List.{List, [], _∷_}
-use mathlib.Core.Option.{Option, some, none}
+use mathlib.Core.{Bool._&&_, List.List, List.[], List._∷_, Option.Option, Option.some, Option.none}
 use lib.Dec.{leb, eqb}
 use Rattle.octets.specs.Choice.{either}
 use Rattle.field.specs.Kind.{Value}
@@ -13,9 +11,9 @@ grown c [] = (c ∷ []) ∷ []
 grown c (p ∷ ps) = (c ∷ p) ∷ ps
 
 -- a text cut at its dots
-unfoldable pub partsOf : List ℕ → List (List ℕ)
-partsOf [] = [] ∷ []
-partsOf (c ∷ cs) = either (eqb c 0x2E) (λ _. [] ∷ partsOf cs) (λ _. grown c (partsOf cs))
+unfoldable pub cutAtDots : List ℕ → List (List ℕ)
+cutAtDots [] = [] ∷ []
+cutAtDots (c ∷ cs) = either (eqb c 0x2E) (λ _. [] ∷ cutAtDots cs) (λ _. grown c (cutAtDots cs))
 
 -- what decimal digits write behind a number
 unfoldable pub digitsFrom : ℕ → List ℕ → Option ℕ
@@ -46,4 +44,4 @@ three (a ∷ (b ∷ (c ∷ []))) = released (numberOfPart a) (numberOfPart b) (n
 three (a ∷ (b ∷ (c ∷ (d ∷ rest)))) = none
 
 unfoldable pub versionOf : List ℕ → Option Value
-versionOf d = three (partsOf d)
+versionOf d = three (cutAtDots d)

@@ -1,15 +1,14 @@
 // The head of an element with the length that follows it.
 use crate::Opened;
 use element::Shape;
-use octets::big_at;
 use walk::lead::head_of;
 use walk::lead::two_to;
 ghost use mathlib.Core.Path.{_≡_};
 ghost use Prim.Native.Nat.{_≤_};
 ghost use lib.ListN.{length};
 ghost use Rattle.element.specs.Form.{isText, isMap, spanOf};
-ghost use Rattle.field.specs.At.{endOf};
-ghost use Rattle.field.specs.Part.{openedAt, shut, isBody, isArray};
+ghost use Rattle.field.specs.code.At.{endOf};
+ghost use Rattle.field.specs.code.Extent.{openedAt, shut, isBody, isArray};
 
 // The head at a place; Never where there is no byte, where its length is cut and at C1.
 pub fn opened_at(s: &[u8], at: usize) -> Opened
@@ -28,7 +27,7 @@ pub fn opened_at(s: &[u8], at: usize) -> Opened
     Opened {
         shape,
         from: at + 1 + wide,
-        size: h.more + (big_at(s, at + 1, wide) as usize),
+        size: h.more + (octets::big_at(s, at + 1, wide) as usize),
     }
 }
 

@@ -1,28 +1,22 @@
 // An array of numbers from 0 to 255 read into a room in one pass: each part is copied as it is looked at.
 use crate::Judged;
 use crate::Octet;
-use crate::array::array_at;
-use crate::array::low_run;
-use crate::array::octet_at;
+use crate::array;
 use crate::whole::bad;
 use crate::whole::good;
-use octets::is_there;
 ghost use mathlib.Core.Path.{_≡_};
 ghost use Prim.Native.Nat.{_≤_};
 ghost use lib.ListN.{length};
 ghost use Rattle.octets.specs.Bytes.{putAt};
-ghost use Rattle.field.specs.Kind.{Kind};
-ghost use Rattle.field.specs.Judge.{onSome, sized};
-ghost use Rattle.field.specs.Into.{leadInto};
-ghost use Rattle.field.specs.Read.{tellOf, readAt};
-ghost use Rattle.field.specs.Item.{octetAt, octetsFrom, leadingFrom};
+ghost use Rattle.field.specs.{Kind.Kind, Judge.onSome, Judge.stringSized, code.Into.leadInto, code.Read.tellOf, code.Read.readAt};
+ghost use Rattle.field.specs.{code.Item.octetAt, code.Item.octetsFrom, code.Item.leadingFrom};
 
 // The array at a place, where the room has space for its parts.
 pub fn array_into(s: &[u8], at: usize, out: &mut [u8]) -> Judged
     ensures told { λ r. ⌜ r ≡ readAt (Kind.arrays 0 (length (now (out .entry)))) (now (s .entry)) at ⌝ }
     ensures room { λ _. ⌜ now (out .exit) ≡ leadInto (now (s .entry)) at (now (out .entry)) ⌝ }
 {
-    let a = array_at(s, at);
+    let a = array::array_at(s, at);
     if a.there {
         if out.len() < a.size {
             return bad();
@@ -35,10 +29,10 @@ pub fn array_into(s: &[u8], at: usize, out: &mut [u8]) -> Judged
 // The n parts from a place on. A run of bytes below 0x80 goes first.
 fn parts_into(s: &[u8], from: usize, n: usize, out: &mut [u8]) -> Judged
     requires { ⌜ n ≤ length (now out) ⌝ }
-    ensures told { λ r. ⌜ r ≡ tellOf (onSome (octetsFrom (now (s .entry)) n from) (sized 0 (length (now (out .entry))))) ⌝ }
+    ensures told { λ r. ⌜ r ≡ tellOf (onSome (octetsFrom (now (s .entry)) n from) (stringSized 0 (length (now (out .entry))))) ⌝ }
     ensures room { λ _. ⌜ now (out .exit) ≡ putAt (now (out .entry)) 0 (leadingFrom (now (s .entry)) n from) ⌝ }
 {
-    let run = low_run(s, from, n);
+    let run = array::low_run(s, from, n);
     let mut i: usize = 0;
     while i < run {
         out[i] = s[from + i];
@@ -64,7 +58,7 @@ fn parts_into(s: &[u8], from: usize, n: usize, out: &mut [u8]) -> Judged
 fn part_at(s: &[u8], at: usize) -> Octet
     ensures { λ r. ⌜ r ≡ octetAt (now (s .entry)) at ⌝ }
 {
-    if is_there(s.len(), at, 2) {
+    if octets::is_there(s.len(), at, 2) {
         let b = s[at];
         if b < 0x80 {
             return Octet::Byte {
@@ -79,5 +73,5 @@ fn part_at(s: &[u8], at: usize) -> Octet
             };
         }
     }
-    octet_at(s, at)
+    array::octet_at(s, at)
 }

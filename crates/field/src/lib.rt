@@ -3,34 +3,31 @@ mod array;
 mod flag;
 mod head;
 mod into;
-mod kind;
+mod locate;
 mod map;
-mod place;
 mod text;
 mod version;
 mod whole;
 
-use element::Shape;
 ghost use mathlib.Core.Path.{_≡_};
 ghost use Prim.Native.Nat.{_+_, _<_};
 ghost use lib.ListN.{length};
-ghost use Rattle.field.specs.Kind.{Kind, kindOf};
-ghost use Rattle.field.specs.Judge.{judge};
-ghost use Rattle.field.specs.Cell.{toldOf, zero64};
-ghost use Rattle.field.specs.At.{shallowAt, cellAt, filled, positioned};
-ghost use Rattle.field.specs.Into.{readInto};
+ghost use Rattle.field.specs.{Kind.Kind, Judge.judge, Cell.zero64, code.Told.toldOf, code.Told.locatedOf, code.Told.releasedOf};
+ghost use Rattle.field.specs.{code.At.shallowAt, code.At.cellAt, code.At.stringFilled, code.Into.readInto};
 
-// How a field stands: 0 good, 1 invalid, 2 missing, 3 more than once; its value as 64 bits or as a real.
+// A value's places begin here: those below say that it has none, or several.
+const SOMEWHERE: usize = 2;
+
+// How a field stands: good, invalid, missing (2) or more than once (3).
+const GOOD: u8 = 0;
+
+const INVALID: u8 = 1;
+
+// How a field stands, and its value as 64 bits or as a real.
 pub struct Judged {
     pub state: u8,
     pub word: u64,
     pub figure: f64,
-}
-
-// From minus the first to the second.
-struct Bounds {
-    lo: u64,
-    hi: u64,
 }
 
 // geoLocation's three reals.
@@ -40,15 +37,28 @@ pub struct Position {
     pub altitude: f64,
 }
 
+// The same of a field that is a position, and of one that is a version: zeros where it has no value.
+pub struct Located {
+    pub state: u8,
+    pub position: Position,
+}
+
+pub struct Released {
+    pub state: u8,
+    pub major: u16,
+    pub minor: u16,
+    pub patch: u16,
+}
+
 // A head with its length: what stands behind it begins at `from` and has `size` bytes or parts. Never where it is cut.
 struct Opened {
-    shape: Shape,
+    shape: element::Shape,
     from: usize,
     size: usize,
 }
 
 // Where the bytes or parts of an element stand, if it is there.
-struct Part {
+struct Extent {
     there: bool,
     from: usize,
     size: usize,
@@ -67,14 +77,6 @@ struct Measure {
     next: usize,
 }
 
-// Three finite reals, or zeros.
-struct Triple {
-    there: bool,
-    x: f64,
-    y: f64,
-    z: f64,
-}
-
 // A version as far as it is read: its dots, whether a digit stands behind the last of them, and its numbers.
 struct Release {
     dots: u8,
@@ -90,53 +92,98 @@ enum Fed {
     Off,
 }
 
-// The value of the field whose place is p: 0 where its key is missing, 1 where its key stands more than once.
-pub fn cell_at(s: &[u8], p: usize, kind: u16) -> Judged
-    ensures { λ r. ⌜ r ≡ toldOf (cellAt (kindOf kind) (now (s .entry)) p) ⌝ }
+// Of each call, p is the place of the field's value: 0 where its key is missing, 1 where its key stands more than once.
+
+// A whole number from minus lo to hi.
+pub fn whole_cell(s: &[u8], p: usize, lo: u64, hi: u64) -> Judged
+    ensures { λ r. ⌜ r ≡ toldOf (cellAt (Kind.wholes lo hi) (now (s .entry)) p) ⌝ }
 {
-    if p < 2 {
+    if p < SOMEWHERE {
         return absent(p);
     }
-    kind::kind_at(s, p, kind)
+    whole::whole_at(s, p, lo, hi)
 }
 
-// A field that has no one place: its key is missing, or stands more than once.
-fn absent(p: usize) -> Judged
-    requires { ⌜ p < 2 ⌝ }
-    ensures { λ r. ⌜ r ≡ record { state = 2 + p; word = 0; figure = zero64 } ⌝ }
+pub fn real_cell(s: &[u8], p: usize) -> Judged
+    ensures { λ r. ⌜ r ≡ toldOf (cellAt Kind.reals (now (s .entry)) p) ⌝ }
 {
-    Judged {
-        state: 2 + (p as u8),
-        word: 0,
-        figure: 0.0,
+    if p < SOMEWHERE {
+        return absent(p);
     }
+    whole::real_at(s, p)
 }
 
-// The value of such a field that is an array of bytes, as many as the room has space for, and the bytes at the room's start, in one pass.
-// They stop at the first part that is no byte. The room is as it was where there is no array, or it has too many parts.
+pub fn flag_cell(s: &[u8], p: usize) -> Judged
+    ensures { λ r. ⌜ r ≡ toldOf (cellAt Kind.flags (now (s .entry)) p) ⌝ }
+{
+    if p < SOMEWHERE {
+        return absent(p);
+    }
+    flag::flag_at(s, p)
+}
+
+// A text of lo to hi bytes: how many it has.
+pub fn text_cell(s: &[u8], p: usize, lo: usize, hi: usize) -> Judged
+    ensures { λ r. ⌜ r ≡ toldOf (cellAt (Kind.texts lo hi) (now (s .entry)) p) ⌝ }
+{
+    if p < SOMEWHERE {
+        return absent(p);
+    }
+    text::string_at(s, p, lo, hi)
+}
+
+// A text, and a map, that are not kept.
+pub fn word_cell(s: &[u8], p: usize) -> Judged
+    ensures { λ r. ⌜ r ≡ toldOf (cellAt Kind.words (now (s .entry)) p) ⌝ }
+{
+    if p < SOMEWHERE {
+        return absent(p);
+    }
+    text::word_at(s, p)
+}
+
+pub fn map_cell(s: &[u8], p: usize) -> Judged
+    ensures { λ r. ⌜ r ≡ toldOf (cellAt Kind.maps (now (s .entry)) p) ⌝ }
+{
+    if p < SOMEWHERE {
+        return absent(p);
+    }
+    map::map_at(s, p)
+}
+
+pub fn position_cell(s: &[u8], p: usize) -> Located
+    ensures { λ r. ⌜ r ≡ locatedOf (cellAt Kind.positions (now (s .entry)) p) ⌝ }
+{
+    if p < SOMEWHERE {
+        return locate::unlocated(state_of(p));
+    }
+    locate::located(s, p)
+}
+
+pub fn version_cell(s: &[u8], p: usize) -> Released
+    ensures { λ r. ⌜ r ≡ releasedOf (cellAt Kind.versions (now (s .entry)) p) ⌝ }
+{
+    if p < SOMEWHERE {
+        return version::unreleased(state_of(p));
+    }
+    version::version_at(s, p)
+}
+
+// An array of bytes, as many as the room has space for, and the bytes at the room's start, in one pass. They stop at the first part that is no
+// byte. The room is as it was where there is no array, or it has too many parts.
 pub fn octets_read(s: &[u8], p: usize, out: &mut [u8]) -> Judged
     ensures told { λ r. ⌜ r ≡ toldOf (cellAt (Kind.arrays 0 (length (now (out .entry)))) (now (s .entry)) p) ⌝ }
     ensures room { λ _. ⌜ now (out .exit) ≡ readInto (now (s .entry)) p (now (out .entry)) ⌝ }
 {
-    if p < 2 {
+    if p < SOMEWHERE {
         return absent(p);
     }
     into::array_into(s, p, out)
 }
 
-// The bytes of the array of numbers at a place, from the room's start on; nothing where they are no such array or have no room.
-pub fn octets_into(s: &[u8], p: usize, out: &mut [u8])
-    ensures { λ _. ⌜ now (out .exit) ≡ filled (judge (Kind.arrays 0 (length (now (out .entry)))) (shallowAt (now (s .entry)) p)) (now (out .entry)) ⌝ }
-{
-    let a = array::array_at(s, p);
-    if a.there {
-        array::fill(s, a.from, a.size, out);
-    }
-}
-
 // The bytes of the text at a place, from the room's start on; nothing where no text stands or its bytes have no room.
 pub fn text_into(s: &[u8], p: usize, out: &mut [u8])
-    ensures { λ _. ⌜ now (out .exit) ≡ filled (judge (Kind.texts 0 (length (now (out .entry)))) (shallowAt (now (s .entry)) p)) (now (out .entry)) ⌝ }
+    ensures { λ _. ⌜ now (out .exit) ≡ stringFilled (judge (Kind.texts 0 (length (now (out .entry)))) (shallowAt (now (s .entry)) p)) (now (out .entry)) ⌝ }
 {
     let t = text::text_at(s, p);
     if t.there {
@@ -144,14 +191,21 @@ pub fn text_into(s: &[u8], p: usize, out: &mut [u8])
     }
 }
 
-// The three reals of the array at a place; zeros where no such array stands.
-pub fn position_at(s: &[u8], p: usize) -> Position
-    ensures { λ r. ⌜ r ≡ positioned (judge Kind.places (shallowAt (now (s .entry)) p)) ⌝ }
+// A field that has no one place: its key is missing, or stands more than once.
+fn state_of(p: usize) -> u8
+    requires { ⌜ p < 2 ⌝ }
+    ensures { λ r. ⌜ r ≡ 2 + p ⌝ }
 {
-    let t = place::located(s, p);
-    Position {
-        latitude: t.x,
-        longitude: t.y,
-        altitude: t.z,
+    2 + (p as u8)
+}
+
+fn absent(p: usize) -> Judged
+    requires { ⌜ p < 2 ⌝ }
+    ensures { λ r. ⌜ r ≡ record { state = 2 + p; word = 0; figure = zero64 } ⌝ }
+{
+    Judged {
+        state: state_of(p),
+        word: 0,
+        figure: 0.0,
     }
 }

@@ -1,6 +1,6 @@
 // Texts: where their bytes stand, and how many there are.
+use crate::Extent;
 use crate::Judged;
-use crate::Part;
 use crate::head::is_text;
 use crate::head::opened_at;
 use crate::whole::bad;
@@ -9,9 +9,7 @@ ghost use mathlib.Core.Path.{_≡_};
 ghost use Prim.Native.Nat.{_+_, _≤_};
 ghost use lib.ListN.{length, take, drop};
 ghost use Rattle.octets.specs.Bytes.{putAt};
-ghost use Rattle.field.specs.Kind.{Kind};
-ghost use Rattle.field.specs.Read.{readAt, sizedOf};
-ghost use Rattle.field.specs.Part.{nowhere, partOf, Bears};
+ghost use Rattle.field.specs.{Kind.Kind, code.Read.readAt, code.Read.sizedOf, code.Extent.nowhere, code.Extent.partFrom, code.Extent.Bears};
 
 // A text that is not kept.
 pub fn word_at(s: &[u8], at: usize) -> Judged
@@ -61,7 +59,7 @@ pub fn copy(s: &[u8], from: usize, n: usize, out: &mut [u8])
 }
 
 // The bytes of the text at a place.
-pub fn text_at(s: &[u8], at: usize) -> Part
+pub fn text_at(s: &[u8], at: usize) -> Extent
     ensures { λ r. ⌜ Bears (now (s .entry)) at r ⌝ }
 {
     if s.len() <= at {
@@ -78,7 +76,7 @@ pub fn text_at(s: &[u8], at: usize) -> Part
 }
 
 // The same with a length of its own.
-fn long_text(s: &[u8], at: usize) -> Part
+fn long_text(s: &[u8], at: usize) -> Extent
     ensures { λ r. ⌜ Bears (now (s .entry)) at r ⌝ }
 {
     let o = opened_at(s, at);
@@ -91,12 +89,12 @@ fn long_text(s: &[u8], at: usize) -> Part
 }
 
 // n bytes from a place on, where they are within len.
-fn part(len: usize, from: usize, n: usize) -> Part
+fn part(len: usize, from: usize, n: usize) -> Extent
     requires { ⌜ from ≤ len ⌝ }
-    ensures { λ r. ⌜ r ≡ partOf len from n ⌝ }
+    ensures { λ r. ⌜ r ≡ partFrom len from n ⌝ }
 {
     if n <= len - from {
-        Part {
+        Extent {
             there: true,
             from,
             size: n,
@@ -106,10 +104,10 @@ fn part(len: usize, from: usize, n: usize) -> Part
     }
 }
 
-pub fn nowhere() -> Part
+pub fn nowhere() -> Extent
     ensures { λ r. ⌜ r ≡ nowhere ⌝ }
 {
-    Part {
+    Extent {
         there: false,
         from: 0,
         size: 0,

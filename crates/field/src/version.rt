@@ -1,52 +1,64 @@
 // Versions: three decimal numbers 0 to 65,535 joined by dots, no leading zero, read in one pass that ends at the first byte that breaks this.
 use crate::Fed;
-use crate::Judged;
+use crate::GOOD;
+use crate::INVALID;
 use crate::Release;
+use crate::Released;
 use crate::text::text_at;
-use crate::whole::bad;
-use crate::whole::good;
 ghost use mathlib.Core.Path.{_≡_};
 ghost use Prim.Native.Nat.{_+_, _≤_};
 ghost use lib.ListN.{length, take, drop};
-ghost use Rattle.field.specs.Kind.{Kind};
-ghost use Rattle.field.specs.Read.{tellOf, readAt};
-ghost use Rattle.field.specs.Feed.{blank, fedOf, dottedOf, digitOf, fedAll, outcomeOf};
+ghost use Rattle.field.specs.{Kind.Kind, Judge.judge, code.At.shallowAt, code.Read.unreleased, code.Read.releasedBy};
+ghost use Rattle.field.specs.code.Feed.{unfed, fedOf, dottedOf, digitOf, fedAll, outcomeOf};
 
-pub fn version_at(s: &[u8], at: usize) -> Judged
-    ensures { λ r. ⌜ r ≡ readAt Kind.versions (now (s .entry)) at ⌝ }
+pub fn version_at(s: &[u8], at: usize) -> Released
+    ensures { λ r. ⌜ r ≡ releasedBy (judge Kind.versions (shallowAt (now (s .entry)) at)) ⌝ }
 {
     let t = text_at(s, at);
     if t.there {
         released(scanned(s, t.from, t.size))
     } else {
-        bad()
+        unreleased(INVALID)
     }
 }
 
-// The three numbers in one.
-fn released(f: Fed) -> Judged
-    ensures { λ r. ⌜ r ≡ tellOf (outcomeOf f) ⌝ }
+// The three numbers.
+fn released(f: Fed) -> Released
+    ensures { λ r. ⌜ r ≡ releasedBy (outcomeOf f) ⌝ }
 {
     match f {
         Fed::On(v) => {
             if (v.dots == 2) & v.digit {
-                good(
-                    (v.first as u64) * 0x1_0000_0000
-                        + (v.second as u64) * 0x1_0000
-                        + (v.number as u64),
-                )
+                Released {
+                    state: GOOD,
+                    major: v.first,
+                    minor: v.second,
+                    patch: v.number,
+                }
             } else {
-                bad()
+                unreleased(INVALID)
             }
         }
-        Fed::Off => bad(),
+        Fed::Off => unreleased(INVALID),
+    }
+}
+
+// Zeros.
+pub fn unreleased(state: u8) -> Released
+    ensures { λ r. ⌜ r ≡ unreleased state ⌝ }
+{
+    Released {
+        state: state,
+        major: 0,
+        minor: 0,
+        patch: 0,
     }
 }
 
 // The n bytes from a place on, one after the other.
 fn scanned(s: &[u8], from: usize, n: usize) -> Fed
     requires { ⌜ from + n ≤ length (now s) ⌝ }
-    ensures { λ r. ⌜ r ≡ fedAll blank (take n (drop from (now (s .entry)))) ⌝ }
+    ensures { λ r. ⌜ r ≡ fedAll unfed (take n (drop from (now (s .entry)))) ⌝ }
 {
     let mut v = Release {
         dots: 0,

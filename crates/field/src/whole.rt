@@ -1,24 +1,23 @@
 // Numbers: whole ones within bounds, and finite reals.
+use crate::GOOD;
+use crate::INVALID;
 use crate::Judged;
 use number::Number;
 use number::number_at;
 use octets::big_at;
 use octets::is_there;
 ghost use mathlib.Core.Path.{_≡_};
-ghost use lib.Ieee.{binary64};
-ghost use lib.IntN.{negsuc};
-ghost use Rattle.number.specs.Number.{realBy};
-ghost use Rattle.number.specs.Body.{given};
-ghost use Rattle.field.specs.Kind.{Kind};
-ghost use Rattle.field.specs.Judge.{wholeIn};
-ghost use Rattle.field.specs.Read.{badly, well, tellOf, readAt, realValueIn};
+ghost use lib.{Ieee.binary64, IntN.negsuc};
+ghost use Rattle.number.specs.{Number.realBy, code.Body.given};
+ghost use Rattle.field.specs.{Kind.Kind, Judge.wholeIn};
+ghost use Rattle.field.specs.code.Read.{badly, well, tellOf, readAt, realValueIn};
 
 // An invalid field.
 pub fn bad() -> Judged
     ensures { λ r. ⌜ r ≡ badly ⌝ }
 {
     Judged {
-        state: 1,
+        state: INVALID,
         word: 0,
         figure: 0.0,
     }
@@ -29,7 +28,7 @@ pub fn good(word: u64) -> Judged
     ensures { λ r. ⌜ r ≡ well word ⌝ }
 {
     Judged {
-        state: 0,
+        state: GOOD,
         word,
         figure: 0.0,
     }
@@ -79,7 +78,7 @@ fn given_real(there: bool, n: u64) -> Judged
             return bad();
         }
         return Judged {
-            state: 0,
+            state: GOOD,
             word: 0,
             figure: f64::from_bits(n),
         };
@@ -94,7 +93,7 @@ fn real_in(n: Number) -> Judged
         Number::Signed(_) => bad(),
         Number::Unsigned(_) => bad(),
         Number::Real(x) => Judged {
-            state: 0,
+            state: GOOD,
             word: 0,
             figure: x,
         },

@@ -5,11 +5,10 @@ use mathlib.Core.Bool.{Bool, true, false, not}
 use mathlib.Core.List.{List, []}
 use Prim.Native.Nat.{ℕ, _+_, _-_, _≤_, _<_}
 use native.Mathlib.Omega.{arith}
-use lib.Dec.{lit≤}
 use lib.ListN.{length, take, drop, length-drop, drop-of-length-le}
 use lib.Seq.{take-nil, take-all}
-use borrow.Author.Tests.{lt-ltb, le-ltb, eq-eqb, ne-eqb, not-true, not-false}
-use Rattle.octets.specs.Number.{littleAt, ifThere}
+use borrow.Author.Tests.{lt-ltb, le-ltb, not-true, not-false}
+use Rattle.octets.specs.{Number.littleAt, Number.ifThere, Size.isSize}
 use Rattle.octets.proofs.Reading.{if-there}
 use Rattle.frame.specs.declared.Framed.the-variants.{Whole, Refused}
 use Rattle.frame.specs.Frame.{identifier, agrees, framedOf, payloadOf, sizeOf}
@@ -29,25 +28,21 @@ module _ (s : List ℕ) (a : Bool) (e : a ≡ agrees identifier s) where
       stated : n ≡ sizeOf s
       stated = q ∙ if-there s 8 4 (littleAt s 8 4) (omega arith) h
 
-      pub empty : n ≡ 0 → Refused 3 ≡ framedOf s
-      unfolding framedOf
-      empty z = simp (← e, not-false a t, le-ltb (length s) 12 h, eq-eqb (sizeOf s) 0 (sym stated ∙ z))
-
-      module _ (some : n ≡ 0 → ⊥) where
-        pub long : (k : ℕ) → 4096 ≤ k → k < n → Refused 3 ≡ framedOf s
+      module _ (b : Bool) (d : b ≡ isSize n) where
+        pub missized : not b ≡ true → Refused 3 ≡ framedOf s
         unfolding framedOf
-        long k g l = simp (← e, not-false a t, le-ltb (length s) 12 h, ← stated, ne-eqb n 0 some, lt-ltb 4096 n (omega arith))
+        missized f = simp (← e, not-false a t, le-ltb (length s) 12 h, ← stated, ← d, not-true b f)
 
-        module _ (l : n ≤ 4096) where
+        module _ (f : not b ≡ false) where
           pub cut : length s - 12 < n → Refused 1 ≡ framedOf s
           unfolding framedOf
-          cut g = simp (← e, not-false a t, le-ltb (length s) 12 h, ← stated, ne-eqb n 0 some, le-ltb 4096 n l, lt-ltb (length s) (12 + n) (omega arith))
+          cut g = simp (← e, not-false a t, le-ltb (length s) 12 h, ← stated, ← d, not-false b f, lt-ltb (length s) (12 + n) (omega arith))
 
           pub whole : n ≤ length s - 12 → Whole n ≡ framedOf s
           unfolding framedOf
-          whole g = simp (← e, not-false a t, le-ltb (length s) 12 h, ← stated, ne-eqb n 0 some, le-ltb 4096 n l, le-ltb (length s) (12 + n) (omega arith))
+          whole g = simp (← e, not-false a t, le-ltb (length s) 12 h, ← stated, ← d, not-false b f, le-ltb (length s) (12 + n) (omega arith))
 
-pub ruleset answers = (strange, headless, empty, long, cut, whole, lit≤, arith)
+pub ruleset answers = (strange, headless, missized, cut, whole, arith)
 
 -- the part that is shown
 module _ (s : List ℕ) (size : ℕ) where

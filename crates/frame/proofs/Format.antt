@@ -1,18 +1,16 @@
 -- The reader and the format are one: a frame that is read is an identifier, a size, that many bytes of payload and what is behind them, and
 -- every such list is read so. One way by taking the definition's tests apart, the other by computing each of them. Assumes nothing.
 use mathlib.Core.Path.{_≡_, refl, sym, ap, ap₂, _∙_}
-use mathlib.Core.Bool.{Bool, true, false, _||_}
+use mathlib.Core.Bool.{Bool, true, false}
 use mathlib.Core.List.{List, [], _∷_, _++_}
-use Prim.Native.Nat.{ℕ, _+_, _-_, _≤_, _<_}
+use Prim.Native.Nat.{ℕ, _+_, _≤_, _<_}
 use native.Mathlib.Omega.{arith}
-use lib.Dec.{ltb, eqb}
+use lib.Dec.{ltb}
 use lib.ListN.{length, take, drop, length-append, length-drop, take-append-drop}
 use lib.Seq.{take-all, drop-drop, drop-at, take-append-seam, length-take-le}
-use borrow.Author.Tests.{le-ltb, eq-eqb, ne-eqb, ltb-false, eqb-false}
-use Rattle.octets.specs.Choice.{either}
-use Rattle.octets.specs.Bytes.{IsBytes, littleBytes}
-use Rattle.octets.proofs.Ranges.{true-false}
-use Rattle.octets.proofs.Digits.{length-little, little-here, little-again}
+use borrow.Author.Tests.{le-ltb, eq-eqb, ltb-false}
+use Rattle.octets.specs.{Choice.either, Bytes.IsBytes, Bytes.littleBytes, Size.isSize}
+use Rattle.octets.proofs.{Sizes.size-is, Sizes.sized-some, Sizes.sized-most, Digits.length-little, Digits.little-here, Digits.little-again}
 use Rattle.frame.specs.declared.Framed.the-variants.{Whole, Refused}
 use Rattle.frame.specs.Frame.{identifier, agrees, framedOf, payloadOf, sizeOf}
 use Rattle.frame.proofs.Identifier.{all-agree}
@@ -21,29 +19,25 @@ refused-whole : {A : Type 0} (k n : ℕ) → Refused k ≡ Whole n → A
 refused-whole k n e = let z : _≡_ {A = ℕ} 0 1 = cc in absurd (omega arith)
 
 -- the tests of a frame that is whole
-tests-of : (a b c d : Bool) (m n : ℕ) → either a (λ _. either b (λ _. Refused 1) (λ _. either c (λ _. Refused 3) (λ _. either d (λ _. Refused 1) (λ _. Whole m)))) (λ _. Refused 2) ≡ Whole n → (a ≡ true) × (b ≡ false) × (c ≡ false) × (d ≡ false) × (m ≡ n)
+tests-of : (a b c d : Bool) (m n : ℕ) → either a (λ _. either b (λ _. Refused 1) (λ _. either c (λ _. either d (λ _. Refused 1) (λ _. Whole m)) (λ _. Refused 3))) (λ _. Refused 2) ≡ Whole n → (a ≡ true) × (b ≡ false) × (c ≡ true) × (d ≡ false) × (m ≡ n)
 tests-of false b c d m n e = refused-whole 2 n e
 tests-of true true c d m n e = refused-whole 1 n e
-tests-of true false true d m n e = refused-whole 3 n e
-tests-of true false false true m n e = refused-whole 1 n e
-tests-of true false false false m n e = (refl, refl, refl, refl, cc)
+tests-of true false false d m n e = refused-whole 3 n e
+tests-of true false true true m n e = refused-whole 1 n e
+tests-of true false true false m n e = (refl, refl, refl, refl, cc)
 
 -- no frame is refused with the number 0
-refused-tests : (a b c d : Bool) (m k : ℕ) → either a (λ _. either b (λ _. Refused 1) (λ _. either c (λ _. Refused 3) (λ _. either d (λ _. Refused 1) (λ _. Whole m)))) (λ _. Refused 2) ≡ Refused k → 0 < k
+refused-tests : (a b c d : Bool) (m k : ℕ) → either a (λ _. either b (λ _. Refused 1) (λ _. either c (λ _. either d (λ _. Refused 1) (λ _. Whole m)) (λ _. Refused 3))) (λ _. Refused 2) ≡ Refused k → 0 < k
 refused-tests false b c d m k e = let i : 2 ≡ k = cc in omega arith
 refused-tests true true c d m k e = let i : 1 ≡ k = cc in omega arith
-refused-tests true false true d m k e = let i : 3 ≡ k = cc in omega arith
-refused-tests true false false true m k e = let i : 1 ≡ k = cc in omega arith
-refused-tests true false false false m k e = refused-whole k m (sym e)
+refused-tests true false false d m k e = let i : 3 ≡ k = cc in omega arith
+refused-tests true false true true m k e = let i : 1 ≡ k = cc in omega arith
+refused-tests true false true false m k e = refused-whole k m (sym e)
 
 pub refused-number : (s : List ℕ) (k : ℕ) → framedOf s ≡ Refused k → 0 < k
 unfolding framedOf
 refused-number s k e =
-    refused-tests (agrees identifier s) (ltb (length s) 12) (eqb (sizeOf s) 0 || ltb 4096 (sizeOf s)) (ltb (length s) (12 + sizeOf s)) (sizeOf s) k e
-
-neither : (a b : Bool) → a || b ≡ false → (a ≡ false) × (b ≡ false)
-neither true b e = true-false e
-neither false b e = (refl, e)
+    refused-tests (agrees identifier s) (ltb (length s) 12) (isSize (sizeOf s)) (ltb (length s) (12 + sizeOf s)) (sizeOf s) k e
 
 -- a whole frame of n bytes of payload at the start of s
 pub record IsFrame (n : ℕ) (s : List ℕ) : Type 0 where
@@ -53,10 +47,10 @@ pub record IsFrame (n : ℕ) (s : List ℕ) : Type 0 where
   pub bytes : s ≡ identifier ++ (littleBytes 4 n ++ (payloadOf n s ++ drop (12 + n) s))
 
 module _ (s : List ℕ) (n : ℕ) (e : framedOf s ≡ Whole n) where
-  passed : (agrees identifier s ≡ true) × (ltb (length s) 12 ≡ false) × (eqb (sizeOf s) 0 || ltb 4096 (sizeOf s) ≡ false) × (ltb (length s) (12 + sizeOf s) ≡ false) × (sizeOf s ≡ n)
+  passed : (agrees identifier s ≡ true) × (ltb (length s) 12 ≡ false) × (isSize (sizeOf s) ≡ true) × (ltb (length s) (12 + sizeOf s) ≡ false) × (sizeOf s ≡ n)
   unfolding framedOf
   passed =
-      tests-of (agrees identifier s) (ltb (length s) 12) (eqb (sizeOf s) 0 || ltb 4096 (sizeOf s))
+      tests-of (agrees identifier s) (ltb (length s) 12) (isSize (sizeOf s))
       (ltb (length s) (12 + sizeOf s)) (sizeOf s) n e
 
   pub whole-size : sizeOf s ≡ n
@@ -79,12 +73,10 @@ module _ (s : List ℕ) (n : ℕ) (e : framedOf s ≡ Whole n) where
 
   pub is-frame : IsBytes s → IsFrame n s
   is-frame b =
-      let sized = neither (eqb (sizeOf s) 0) (ltb 4096 (sizeOf s)) (passed .2) in
-      let none : sizeOf s ≡ 0 → ⊥ = eqb-false (sizeOf s) 0 (sized .0) in
       let size : littleBytes 4 n ≡ take 4 (drop 8 s) = ap (littleBytes 4) (sym (passed .4)) ∙ little-again s b 8 4 (omega (arith, fits)) in
       record {
-        some = omega (arith, passed .4);
-        small = omega (arith, passed .4, ltb-false 4096 (sizeOf s) (sized .1));
+        some = omega (arith, passed .4, sized-some (sizeOf s) (passed .2));
+        small = omega (arith, passed .4, sized-most (sizeOf s) (passed .2));
         there = length-take-le n (drop 12 s) (omega (arith, length-drop 12 s, fits));
         bytes = splits ∙ ap₂ (λ (i z : List ℕ). i ++ (z ++ (payloadOf n s ++ drop (12 + n) s))) (sym opens) (sym size);
       }
@@ -114,7 +106,7 @@ module _ (p t : List ℕ) (some : 1 ≤ length p) (small : length p ≤ 4096) wh
   unfolding framedOf
   is-whole =
       let l = long in
-      simp (agree-front identifier (littleBytes 4 (length p) ++ (p ++ t)), le-ltb (length input) 12 (omega arith), size, ne-eqb (length p) 0 (λ z. omega arith), le-ltb 4096 (length p) small, le-ltb (length input) (12 + length p) (omega arith))
+      simp (agree-front identifier (littleBytes 4 (length p) ++ (p ++ t)), le-ltb (length input) 12 (omega arith), size, size-is (length p) some small, le-ltb (length input) (12 + length p) (omega arith))
 
   pub is-payload : payloadOf (length p) (identifier ++ (littleBytes 4 (length p) ++ (p ++ t))) ≡ p
   is-payload =

@@ -1,22 +1,15 @@
 -- The identifier on the bytes present, as the code tests it: two lists agree exactly where what both have is the same, and bytes are the same
 -- exactly where the numbers that they write are. Assumes nothing.
 use mathlib.Core.Path.{_≡_, refl, sym, ap, ap₂, _∙_}
-use mathlib.Core.Bool.{Bool, true, false}
-use mathlib.Core.List.{List, [], _∷_}
+use mathlib.Core.{Bool.Bool, Bool.true, Bool.false, List.List, List.[], List._∷_}
 use Prim.Native.Nat.{ℕ, _-_, _*_, _/_, _^_, _≤_, _<_}
 use native.Mathlib.Nat.{zero-add}
 use native.Mathlib.Omega.{arith}
-use lib.Dec.{eqb, eqb→eq, lit≤}
-use lib.ListN.{length, take}
-use lib.Seq.{take-nil, take-all, take-length}
+use lib.{Dec.eqb, Dec.eqb→eq, Dec.lit≤, ListN.length, ListN.take, Seq.take-nil, Seq.take-all, Seq.take-length}
 use borrow.Author.Tests.{eq-eqb, eqb-true}
-use Rattle.octets.specs.Choice.{either}
-use Rattle.octets.specs.Number.{bigAt, ifThere}
-use Rattle.octets.specs.Bytes.{IsBytes}
+use Rattle.octets.specs.{Choice.either, Number.bigAt, Number.ifThere, Bytes.IsBytes}
 use Rattle.octets.proofs.Ranges.{are-bytes, ranged, same-test, true-false}
-use Rattle.octets.proofs.Places.{cons-head, cons-tail, big-part}
-use Rattle.octets.proofs.Digits.{big-same}
-use Rattle.octets.proofs.Reading.{Told, is-bytes, if-there}
+use Rattle.octets.proofs.{Places.cons-head, Places.cons-tail, Places.big-part, Digits.big-same, Reading.Told, Reading.is-bytes, Reading.if-there}
 use Rattle.frame.specs.Frame.{identifier, agrees}
 
 -- what both have is the same

@@ -1,4 +1,4 @@
 pub mod Identifier
 pub mod Answers
 pub mod Format
-pub mod Settled
+pub mod Used

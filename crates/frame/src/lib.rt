@@ -1,6 +1,15 @@
 // One BSSCI frame at the start of the bytes that arrived: identifier, size, payload.
+use octets::refusals;
 ghost use mathlib.Core.Path.{_≡_};
 ghost use Rattle.frame.specs.Frame.{identifier, agrees, framedOf, payloadOf};
+
+// A frame's identifier, eight bytes as one number, and its size, four bytes, stand in front of its payload.
+pub const IDENTIFIER: u64 = 0x4D49_4F54_5942_3031;
+
+// The identifier's bytes without the last.
+const FIRST_SEVEN: u64 = 0x4D_494F_5459_4230;
+
+pub const HEAD: usize = 12;
 
 // A whole frame and its payload's size, or document 01's refusal 1, 2 or 3.
 pub enum Framed {
@@ -13,20 +22,17 @@ pub fn read(s: &[u8]) -> Framed
     ensures { λ r. ⌜ r ≡ framedOf (now (s .entry)) ⌝ }
 {
     if !agrees(s) {
-        return Framed::Refused(2);
+        return Framed::Refused(refusals::FRAME_IDENTIFIER);
     }
-    if s.len() < 12 {
-        return Framed::Refused(1);
+    if s.len() < HEAD {
+        return Framed::Refused(refusals::FRAME_INCOMPLETE);
     }
     let n = octets::little_at(s, 8, 4) as usize;
-    if n == 0 {
-        return Framed::Refused(3);
+    if !octets::is_size(n) {
+        return Framed::Refused(refusals::SIZE);
     }
-    if 4096 < n {
-        return Framed::Refused(3);
-    }
-    if s.len() - 12 < n {
-        return Framed::Refused(1);
+    if s.len() - HEAD < n {
+        return Framed::Refused(refusals::FRAME_INCOMPLETE);
     }
     Framed::Whole(n)
 }
@@ -35,14 +41,14 @@ pub fn read(s: &[u8]) -> Framed
 pub fn payload(s: &[u8], size: usize) -> &[u8]
     ensures { λ r. ⌜ now r ≡ payloadOf size (now (s .entry)) ⌝ }
 {
-    if s.len() < 12 {
+    if s.len() < HEAD {
         return &s[..0];
     }
-    if s.len() - 12 < size {
-        return &s[12..];
+    if s.len() - HEAD < size {
+        return &s[HEAD..];
     }
-    let e = 12 + size;
-    &s[12..e]
+    let e = HEAD + size;
+    &s[HEAD..e]
 }
 
 // No byte that is there differs from the identifier's: both are compared as numbers, of eight bytes or of as many as are there.
@@ -51,7 +57,7 @@ fn agrees(s: &[u8]) -> bool
 {
     let n = s.len();
     if n < 8 {
-        return octets::big_at(s, 0, n) == 0x4D_494F_5459_4230 >> (56 - 8 * n);
+        return octets::big_at(s, 0, n) == FIRST_SEVEN >> (56 - 8 * n);
     }
-    octets::big_at(s, 0, 8) == 0x4D49_4F54_5942_3031
+    octets::big_at(s, 0, 8) == IDENTIFIER
 }

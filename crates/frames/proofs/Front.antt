@@ -1,14 +1,11 @@
 -- Bytes moved to the front, one after another: the place written is never past the place read, so what is still to be read is as it was.
 -- Assumes nothing.
 use mathlib.Core.Path.{_≡_, refl, sym, ap, _∙_}
-use mathlib.Core.Bool.{Bool, true, false}
-use mathlib.Core.List.{List}
+use mathlib.Core.{Bool.Bool, Bool.true, Bool.false, List.List}
 use Prim.Native.Nat.{ℕ, _+_, _-_, _≤_, _<_}
 use native.Mathlib.Nat.{zero-add}
 use native.Mathlib.Omega.{arith}
-use lib.Dec.{eqb}
-use lib.ListN.{length, getD, set}
-use lib.Seq.{getD-set-same, getD-set-other}
+use lib.{Dec.eqb, ListN.length, ListN.getD, ListN.set, Seq.getD-set-same, Seq.getD-set-other}
 use borrow.Author.Tests.{eqb-true, eqb-false}
 
 pub record Moved (was held : List ℕ) (from n i : ℕ) : Type 0 where

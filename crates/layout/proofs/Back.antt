@@ -1,18 +1,16 @@
 -- A record's image has 104 bytes and is taken as the record, for every record that a program can hold: no two of its stretches overlap. So no two
 -- records have one image. Assumes nothing.
 use mathlib.Core.Path.{_≡_, refl, sym, ap, _∙_}
-use mathlib.Core.Bool.{true, _&&_}
-use mathlib.Core.List.{List, [], _∷_, _++_, map}
+use mathlib.Core.Bool.{true}
+use mathlib.Core.List.{List, [], _++_, map}
 use Prim.Native.Nat.{ℕ, _≤_}
-use lib.Dec.{T}
-use lib.IntN.{ℤ}
-use lib.ListN.{length, getD}
-use Rattle.octets.specs.Choice.{either}
-use Rattle.record.specs.declared.Body.{Body}
-use Rattle.record.specs.declared.Message.{Message}
-use Rattle.record.specs.Record.{commandIn, bodyIn}
-use Rattle.layout.specs.Image.{Stretch, conLies, conRspLies, statusRspLies, packetLies, detLies, attPrpLies, ulDataLies, bodyLies, headLies, messageLies, laid, zeros, messageSize, messageImage}
-use Rattle.layout.specs.Taken.{markPlaces, number, signed, areMarks, bodiesAt, bodyAt, messageAt}
+use lib.Dec.{T, leb, ltb, leb→le}
+use lib.{IntN.ℤ, ListN.length, ListN.getD}
+use Rattle.octets.proofs.Ranges.{true-is, both-left}
+use Rattle.record.specs.declared.{Body.Body, Message.Message}
+use Rattle.record.specs.{Record.commandIn, Record.bodyIn, Says.isNamed}
+use Rattle.layout.specs.Image.{conLies, conRspLies, statusRspLies, packetLies, detLies, attPrpLies, ulDataLies, bodyLies, headLies, messageLies, laid, clearImage, messageSize, messageImage}
+use Rattle.layout.specs.Taken.{markPlaces, numberAt, signedAt, areMarks, bodiesAt, bodyAt, messageAt}
 use Rattle.layout.proofs.Taking.{past, marked-past}
 use Rattle.layout.proofs.Parts.{con-of, con-rsp-of, status-rsp-of, det-of, att-prp-of, ul-data-of}
 use Rattle.layout.proofs.Lying.{takenIn, marksIn, AllFit, apart, all-taken, length-laid}
@@ -28,6 +26,18 @@ Own (Body.AttPrp x) = Unit {0}
 Own (Body.DetPrp eui) = Unit {0}
 Own (Body.UlData x) = Unit {0}
 Own (Body.Bare c) = 8 ≤ c
+
+-- a body that has one of the 21 names is such
+pub named-own : (b : Body) → isNamed b ≡ true → Own b
+named-own (Body.Con x) e = tt
+named-own (Body.ConRsp x) e = tt
+named-own (Body.StatusRsp x) e = tt
+named-own (Body.Det x) e = tt
+named-own (Body.DetRsp sign) e = tt
+named-own (Body.AttPrp x) e = tt
+named-own (Body.DetPrp eui) e = tt
+named-own (Body.UlData x) e = tt
+named-own (Body.Bare c) e = leb→le 8 c (both-left (leb 8 c) (ltb c 21) (true-is (isNamed (Body.Bare c)) (sym e)))
 
 -- a record that a program can hold: each value has the width of its stretch, which is that of its type
 pub record Held (m : Message) : Type 0 where
@@ -73,23 +83,23 @@ all-apart z (Body.UlData x) = tt
 all-apart z (Body.Bare c) = tt
 
 pub image-size : (m : Message) → length (messageImage m) ≡ messageSize
-unfolding messageImage zeros
-image-size m = length-laid (messageLies m) zeros
+unfolding messageImage clearImage
+image-size m = length-laid (messageLies m) clearImage
 
 -- the record of what is taken
 record-of : (d : List ℕ) (m : Message) → Own (m .body) → map (takenIn d) (messageLies m) ≡ messageLies m → marksIn d (messageLies m) ≡ true → messageAt d ≡ m
 unfolding messageAt bodyAt
 record-of d m o e f =
-    let z : signed d 8 0 ≡ m .«op_id» = cc in
-    let c : number d 1 8 ≡ commandIn (m .body) = cc in
+    let z : signedAt d 8 0 ≡ m .«op_id» = cc in
+    let c : numberAt d 1 8 ≡ commandIn (m .body) = cc in
     let r : map (takenIn d) (bodyLies (m .body)) ≡ bodyLies (m .body) = cc in
     rw (z, c, marks-are d (m .body) o, f) (λ i. record { «op_id» = m .«op_id»; body = body-of d (m .body) o r i })
 
 pub message-back : (m : Message) → Held m → messageAt (messageImage m) ≡ m
-unfolding messageImage zeros
+unfolding messageImage clearImage
 message-back m h =
-    let r = all-taken messageSize (messageLies m) zeros refl (all-apart (m .«op_id») (m .body)) (h .widths) in
-    record-of (laid (messageLies m) zeros) m (h .own) (r .0) (r .1)
+    let r = all-taken messageSize (messageLies m) clearImage refl (all-apart (m .«op_id») (m .body)) (h .widths) in
+    record-of (laid (messageLies m) clearImage) m (h .own) (r .0) (r .1)
 
 -- no two records have one image
 pub one-record : (m n : Message) → Held m → Held n → messageImage m ≡ messageImage n → m ≡ n

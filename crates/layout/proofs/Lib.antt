@@ -4,4 +4,6 @@ pub mod Putting
 pub mod Lying
 pub mod Parts
 pub mod Back
+pub mod Typed
 pub mod Others
+pub mod Holds

@@ -6,26 +6,20 @@ use mathlib.Core.List.{List, [], _∷_, _++_, map, List·Memᴰ, List·Memᴰ·n
 use mathlib.Core.Logic.{_⊎_, inl, inr}
 use Prim.Native.Nat.{ℕ, zero, suc, _+_, _≤_, _<_}
 use native.Mathlib.Omega.{arith}
-use lib.Dec.{T, leb, ltb}
-use lib.IntN.{ℤ, pos}
-use lib.ListN.{length, getD, List·getD-eq-default}
+use lib.{Dec.T, Dec.leb, Dec.ltb, IntN.ℤ, IntN.pos, ListN.length, ListN.getD, ListN.List·getD-eq-default}
 use borrow.Author.Tests.{le-leb, lt-ltb, le-ltb}
 use Rattle.octets.specs.Choice.{either}
 use Rattle.message.specs.Fields.{lists, listIn}
 use Rattle.saying.specs.Says.{partIn}
-use Rattle.record.specs.declared.Body.{Body}
-use Rattle.record.specs.declared.Message.{Message}
-use Rattle.record.specs.Record.{commandIn, bodyIn}
-use Rattle.record.specs.Says.{rowsOf, bodyRows}
-use Rattle.record.specs.Fits.{firstFault, faultIn}
-use Rattle.layout.specs.Image.{Stretch, placeOf, conLies, conRspLies, statusRspLies, packetLies, detLies, attPrpLies, ulDataLies, bodyLies, headLies}
-use Rattle.layout.specs.Taken.{markPlaces, number, signed, areMarks, conAt, conRspAt, statusRspAt, packetAt, detAt, attPrpAt, ulDataAt, bodiesAt, bodyAt, messageAt}
-use Rattle.layout.proofs.Taking.{past}
+use Rattle.record.specs.declared.{Body.Body, Message.Message}
+use Rattle.record.specs.{Record.commandIn, Record.bodyIn, Says.sayingsOf, Fits.firstFault, Fits.faultIn}
+use Rattle.layout.specs.Image.{Stretch, startOf, conLies, conRspLies, statusRspLies, packetLies, detLies, attPrpLies, ulDataLies, bodyLies, headLies}
+use Rattle.layout.specs.Taken.{markPlaces, numberAt, signedAt, areMarks, conAt, conRspAt, statusRspAt, packetAt, detAt, attPrpAt, ulDataAt, bodiesAt, bodyAt, messageAt}
+use Rattle.layout.proofs.{Taking.past, Back.Own, Back.marks-are}
 use Rattle.layout.proofs.Lying.{sizeOf, takenIn, marksIn, taken-same, mark-same}
 use Rattle.layout.proofs.Parts.{con-of, con-rsp-of, status-rsp-of, det-of, att-prp-of, ul-data-of}
-use Rattle.layout.proofs.Back.{Own, marks-are}
 
-by-command : (P : ℕ → Type 0) → P 0 → P 1 → P 2 → P 3 → P 4 → P 5 → P 6 → P 7 → ((c : ℕ) → 8 ≤ c → P c) → (c : ℕ) → P c
+pub by-command : (P : ℕ → Type 0) → P 0 → P 1 → P 2 → P 3 → P 4 → P 5 → P 6 → P 7 → ((c : ℕ) → 8 ≤ c → P c) → (c : ℕ) → P c
 by-command P p0 p1 p2 p3 p4 p5 p6 p7 q zero = p0
 by-command P p0 p1 p2 p3 p4 p5 p6 p7 q (suc zero) = p1
 by-command P p0 p1 p2 p3 p4 p5 p6 p7 q (suc (suc zero)) = p2
@@ -39,7 +33,7 @@ by-command P p0 p1 p2 p3 p4 p5 p6 p7 q (suc (suc (suc (suc (suc (suc (suc (suc c
 -- a place that a field has
 abbrev pub isIn : ℕ → List Stretch → Bool
 isIn k [] = false
-isIn k (s ∷ ss) = (leb (placeOf s) k && ltb k (placeOf s + sizeOf s)) || isIn k ss
+isIn k (s ∷ ss) = (leb (startOf s) k && ltb k (startOf s + sizeOf s)) || isIn k ss
 
 -- the stretches of a command's records, here of one with zeros
 abbrev zeroBody : ℕ → Body
@@ -48,8 +42,8 @@ zeroBody c = bodyIn (bodiesAt []) c c
 abbrev pub liesFor : ℕ → List Stretch
 liesFor c = headLies (pos 0) c ++ bodyLies (zeroBody c)
 
-here : (s : Stretch) (ss : List Stretch) (k : ℕ) → k < sizeOf s → T (isIn (placeOf s + k) (s ∷ ss))
-here s ss k h = rw (le-leb (placeOf s) (placeOf s + k) (omega arith), lt-ltb (placeOf s + k) (placeOf s + sizeOf s) (omega arith)) tt
+here : (s : Stretch) (ss : List Stretch) (k : ℕ) → k < sizeOf s → T (isIn (startOf s + k) (s ∷ ss))
+here s ss k h = rw (le-leb (startOf s) (startOf s + k) (omega arith), lt-ltb (startOf s + k) (startOf s + sizeOf s) (omega arith)) tt
 
 later : (a b : Bool) → T b → T (a || b)
 later true b t = tt
@@ -60,8 +54,8 @@ module _ (d e : List ℕ) (long : length d ≡ length e) where
       → (map (takenIn d) ss ≡ map (takenIn e) ss) × (marksIn d ss ≡ marksIn e ss)
   all-same [] f = (refl, refl)
   all-same (s ∷ ss) f =
-      let g : (k : ℕ) → k < sizeOf s → getD d (placeOf s + k) 0 ≡ getD e (placeOf s + k) 0 = λ k h. f (placeOf s + k) (here s ss k h) in
-      let r = all-same ss (λ k t. f k (later (leb (placeOf s) k && ltb k (placeOf s + sizeOf s)) (isIn k ss) t)) in
+      let g : (k : ℕ) → k < sizeOf s → getD d (startOf s + k) 0 ≡ getD e (startOf s + k) 0 = λ k h. f (startOf s + k) (here s ss k h) in
+      let r = all-same ss (λ k t. f k (later (leb (startOf s) k && ltb k (startOf s + sizeOf s)) (isIn k ss) t)) in
       (ap₂ (λ (t : Stretch) (ts : List Stretch). t ∷ ts) (taken-same d e long s g) (r .0), ap₂ _&&_ (mark-same d e long s g) (r .1))
 
   body-same : (c : ℕ) → map (takenIn d) (bodyLies (zeroBody c)) ≡ map (takenIn e) (bodyLies (zeroBody c)) → bodyIn (bodiesAt d) c c ≡ bodyIn (bodiesAt e) c c
@@ -86,13 +80,13 @@ unfolding bodyIn
 zero-command = by-command (λ c. commandIn (zeroBody c) ≡ c) refl refl refl refl refl refl refl refl λ c h. ap commandIn (sym (past (bodiesAt []) c c h))
 
 -- bytes that differ only where the command has no field are the same record
-pub others-ignored : (d e : List ℕ) → length d ≡ length e → ((k : ℕ) → T (isIn k (liesFor (number d 1 8))) → getD d k 0 ≡ getD e k 0) → messageAt d ≡ messageAt e
+pub others-ignored : (d e : List ℕ) → length d ≡ length e → ((k : ℕ) → T (isIn k (liesFor (numberAt d 1 8))) → getD d k 0 ≡ getD e k 0) → messageAt d ≡ messageAt e
 unfolding messageAt bodyAt
 others-ignored d e long f =
-    let c = number d 1 8 in
+    let c = numberAt d 1 8 in
     let r = all-same d e long (liesFor c) f in
-    let z : signed d 8 0 ≡ signed e 8 0 = cc in
-    let k : number d 1 8 ≡ number e 1 8 = cc in
+    let z : signedAt d 8 0 ≡ signedAt e 8 0 = cc in
+    let k : numberAt d 1 8 ≡ numberAt e 1 8 = cc in
     let q : map (takenIn d) (bodyLies (zeroBody c)) ≡ map (takenIn e) (bodyLies (zeroBody c)) = cc in
     let m : areMarks d (getD markPlaces c []) ≡ areMarks e (getD markPlaces c [])
     = rw (zero-command c) at (marks-are d (zeroBody c) (zero-own c) ∙ r .1 ∙ sym (marks-are e (zeroBody c) (zero-own c))) in
@@ -104,24 +98,24 @@ module _ (z : ℤ) (b : List ℕ) where
   bare c = record { «op_id» = z; body = Body.Bare c }
 
   bare-fault : (c p : ℕ) → List·Memᴰ p (getD markPlaces c []) → faultIn (bare c) b ≡ 1
-  unfolding faultIn firstFault lists listIn rowsOf partIn
+  unfolding faultIn firstFault lists listIn sayingsOf partIn
   bare-fault c p = by-command (λ c. List·Memᴰ p (getD markPlaces c []) → faultIn (bare c) b ≡ 1)
       (λ m. refl) (λ m. refl) (λ m. refl) (λ m. refl) (λ m. refl) (λ m. refl) (λ m. refl) (λ m. refl)
       (λ c h m. absurd (List·Memᴰ·not-nil (rw (List·getD-eq-default markPlaces [] h) at m))) c
 
-over-one : (d : List ℕ) (p : ℕ) → 2 ≤ number d 1 p → (l : List ℕ) → List·Memᴰ p l → areMarks d l ≡ false
+over-one : (d : List ℕ) (p : ℕ) → 2 ≤ numberAt d 1 p → (l : List ℕ) → List·Memᴰ p l → areMarks d l ≡ false
 unfolding areMarks
 over-one d p h [] m = absurd (List·Memᴰ·not-nil m)
 over-one d p h (q ∷ l) m = go (List·Memᴰ·cases-cons m) (over-one d p h l)
   where
-    go : (p ≡ q) ⊎ List·Memᴰ p l → (List·Memᴰ p l → areMarks d l ≡ false) → (ltb (number d 1 q) 2 && areMarks d l) ≡ false
-    go (inl e) r = ap (λ (t : Bool). t && areMarks d l) (le-ltb (number d 1 q) 2 (rw e at h))
-    go (inr n) r = ap (λ (t : Bool). ltb (number d 1 q) 2 && t) (r n) ∙ and-false (ltb (number d 1 q) 2)
+    go : (p ≡ q) ⊎ List·Memᴰ p l → (List·Memᴰ p l → areMarks d l ≡ false) → (ltb (numberAt d 1 q) 2 && areMarks d l) ≡ false
+    go (inl e) r = ap (λ (t : Bool). t && areMarks d l) (le-ltb (numberAt d 1 q) 2 (rw e at h))
+    go (inr n) r = ap (λ (t : Bool). ltb (numberAt d 1 q) 2 && t) (r n) ∙ and-false (ltb (numberAt d 1 q) 2)
 
 -- 15: where one of the command's marks is over 1, the first field at fault is the command
-pub marked-refused : (d b : List ℕ) (p : ℕ) → List·Memᴰ p (getD markPlaces (number d 1 8) []) → 2 ≤ number d 1 p → faultIn (messageAt d) b ≡ 1
+pub marked-refused : (d b : List ℕ) (p : ℕ) → List·Memᴰ p (getD markPlaces (numberAt d 1 8) []) → 2 ≤ numberAt d 1 p → faultIn (messageAt d) b ≡ 1
 unfolding messageAt bodyAt
 marked-refused d b p m h =
-    ap (λ (t : Bool). faultIn (record { «op_id» = signed d 8 0; body = either t (λ _. bodyIn (bodiesAt d) (number d 1 8) (number d 1 8)) (λ _. Body.Bare (number d 1 8)) }) b)
-    (over-one d p h (getD markPlaces (number d 1 8) []) m)
-    ∙ bare-fault (signed d 8 0) b (number d 1 8) p m
+    ap (λ (t : Bool). faultIn (record { «op_id» = signedAt d 8 0; body = either t (λ _. bodyIn (bodiesAt d) (numberAt d 1 8) (numberAt d 1 8)) (λ _. Body.Bare (numberAt d 1 8)) }) b)
+    (over-one d p h (getD markPlaces (numberAt d 1 8) []) m)
+    ∙ bare-fault (signedAt d 8 0) b (numberAt d 1 8) p m

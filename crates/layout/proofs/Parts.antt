@@ -1,22 +1,11 @@
 -- Serves only proofs: the fields of a command from its stretches, by their order. So what is taken from the stretches of a command is the record that
 -- has what was taken. Assumes nothing.
-use mathlib.Core.Path.{_≡_, ap}
-use mathlib.Core.Bool.{Bool, false}
-use mathlib.Core.List.{List, map}
+use mathlib.Core.{Path._≡_, Path.ap, Bool.Bool, Bool.false, List.List, List.map}
 use Prim.Native.Nat.{ℕ, _+_}
-use lib.IntN.{ℤ, pos}
-use lib.Ieee.{Float, nan}
-use lib.ListN.{getD}
+use lib.{IntN.ℤ, IntN.pos, Ieee.Float, Ieee.nan, ListN.getD}
 use Rattle.field.specs.declared.Position.{Position}
 use Rattle.message.specs.declared.MaybeVersion.{MaybeVersion}
-use Rattle.record.specs.declared.Sixteen.{Sixteen}
-use Rattle.record.specs.declared.Con.{Con}
-use Rattle.record.specs.declared.ConRsp.{ConRsp}
-use Rattle.record.specs.declared.StatusRsp.{StatusRsp}
-use Rattle.record.specs.declared.Packet.{Packet}
-use Rattle.record.specs.declared.Det.{Det}
-use Rattle.record.specs.declared.AttPrp.{AttPrp}
-use Rattle.record.specs.declared.UlData.{UlData}
+use Rattle.record.specs.declared.{Sixteen.Sixteen, Con.Con, ConRsp.ConRsp, StatusRsp.StatusRsp, Packet.Packet, Det.Det, AttPrp.AttPrp, UlData.UlData}
 use Rattle.layout.specs.Image.{Stretch, conLies, conRspLies, statusRspLies, packetLies, detLies, attPrpLies, ulDataLies}
 use Rattle.layout.specs.Taken.{conAt, conRspAt, statusRspAt, packetAt, detAt, attPrpAt, ulDataAt}
 use Rattle.layout.proofs.Lying.{takenIn}

@@ -3,18 +3,15 @@ use mathlib.Core.Path.{_≡_, refl, sym, ap, _∙_}
 use mathlib.Core.Bool.{Bool, true, false, _&&_, and-true, and-assoc}
 use mathlib.Core.List.{List, [], _∷_, _++_}
 use Prim.Native.Nat.{ℕ, zero, suc, _+_, _-_, _≤_, _<_}
-use native.Mathlib.Nat.{add-zero, sub-zero, sub-self}
+use native.Mathlib.Nat.{add-zero, sub-zero}
 use native.Mathlib.Omega.{arith}
-use lib.Dec.{ltb}
-use lib.IntN.{ℤ}
-use lib.ListN.{length, getD, List·getD-eq-default}
+use lib.{Dec.ltb, IntN.ℤ, ListN.length, ListN.getD, ListN.List·getD-eq-default}
 use mir.Syntax.{w64}
 use mir.Val.{SFits, toZ, ofZ}
 use mir.ValLaws.{toZ-ofZ}
-use Rattle.record.specs.declared.Body.{Body}
-use Rattle.record.specs.declared.Message.{Message}
+use Rattle.record.specs.declared.{Body.Body, Message.Message}
 use Rattle.record.specs.Record.{bodyIn}
-use Rattle.layout.specs.Taken.{places, markPlaces, number, high, signed, areMarks, bodiesAt, bodyAt, messageAt}
+use Rattle.layout.specs.Taken.{places, markPlaces, numberAt, highAt, signedAt, areMarks, bodiesAt, bodyAt, messageAt}
 
 -- ok says that those before the i-th of n bytes are marks
 module _ (d : List ℕ) (at n : ℕ) where
@@ -22,15 +19,15 @@ module _ (d : List ℕ) (at n : ℕ) where
   marks-none = rw (add-zero, sub-zero)
 
   module _ (ok : Bool) (i : ℕ) (e : (ok && areMarks d (places (at + i) (n - i))) ≡ areMarks d (places at n)) where
-    marks-at : i < n → areMarks d (places (at + i) (n - i)) ≡ (ltb (number d 1 (at + i)) 2 && areMarks d (places (at + (i + 1)) (n - (i + 1))))
+    marks-at : i < n → areMarks d (places (at + i) (n - i)) ≡ (ltb (numberAt d 1 (at + i)) 2 && areMarks d (places (at + (i + 1)) (n - (i + 1))))
     unfolding areMarks
     marks-at h =
         let more : n - i ≡ suc (n - (i + 1)) = omega arith in
         let next : at + i + 1 ≡ at + (i + 1) = omega arith in
         rw (more, ← next)
 
-    pub marks-next : (b : ℕ) → i < n → b ≡ number d 1 (at + i) → ((ok && ltb b 2) && areMarks d (places (at + (i + 1)) (n - (i + 1)))) ≡ areMarks d (places at n)
-    marks-next b h f = rw f (and-assoc ok (ltb (number d 1 (at + i)) 2) _ ∙ ap (λ (t : Bool). ok && t) (sym (marks-at h)) ∙ e)
+    pub marks-next : (b : ℕ) → i < n → b ≡ numberAt d 1 (at + i) → ((ok && ltb b 2) && areMarks d (places (at + (i + 1)) (n - (i + 1)))) ≡ areMarks d (places at n)
+    marks-next b h f = rw f (and-assoc ok (ltb (numberAt d 1 (at + i)) 2) _ ∙ ap (λ (t : Bool). ok && t) (sym (marks-at h)) ∙ e)
 
     pub marks-done : n ≤ i → i ≤ n → ok ≡ areMarks d (places at n)
     unfolding areMarks
@@ -51,7 +48,7 @@ past-seven c h0 h1 h2 h3 h4 h5 h6 h7 =
 two-runs : (d xs ys : List ℕ) → (areMarks d xs && areMarks d ys) ≡ areMarks d (xs ++ ys)
 unfolding areMarks
 two-runs d [] ys = refl
-two-runs d (p ∷ xs) ys = and-assoc (ltb (number d 1 p) 2) (areMarks d xs) (areMarks d ys) ∙ ap (λ (t : Bool). ltb (number d 1 p) 2 && t) (two-runs d xs ys)
+two-runs d (p ∷ xs) ys = and-assoc (ltb (numberAt d 1 p) 2) (areMarks d xs) (areMarks d ys) ∙ ap (λ (t : Bool). ltb (numberAt d 1 p) 2 && t) (two-runs d xs ys)
 
 module _ (d : List ℕ) (c : ℕ) where
   pub marked-at : (t : Bool) (k : ℕ) → c ≡ k → t ≡ areMarks d (getD markPlaces k []) → t ≡ areMarks d (getD markPlaces c [])
@@ -77,11 +74,11 @@ past (b ∷ bs) zero c h = absurd (omega arith)
 past (b ∷ bs) (suc i) c h = past bs i c (omega arith)
 
 module _ (d : List ℕ) (c x : ℕ) where
-  pub body-sign : c ≡ 4 → x ≡ high d 4 16 → Body.DetRsp x ≡ bodyIn (bodiesAt d) c c
+  pub body-sign : c ≡ 4 → x ≡ highAt d 4 16 → Body.DetRsp x ≡ bodyIn (bodiesAt d) c c
   unfolding bodyIn
   body-sign e f = rw (e, f)
 
-  pub body-eui : c ≡ 6 → x ≡ number d 8 16 → Body.DetPrp x ≡ bodyIn (bodiesAt d) c c
+  pub body-eui : c ≡ 6 → x ≡ numberAt d 8 16 → Body.DetPrp x ≡ bodyIn (bodiesAt d) c c
   unfolding bodyIn
   body-eui e f = rw (e, f)
 
@@ -91,7 +88,7 @@ body-bare d c h = past (bodiesAt d) c c h
 pub ruleset bodies = (body-sign, body-eui, body-bare, past-seven)
 
 -- the record
-module _ (d : List ℕ) (z : ℤ) (c : ℕ) (t : Bool) (f : SFits w64 z) (e : z ≡ signed d 8 0) (g : c ≡ number d 1 8) (h : t ≡ areMarks d (getD markPlaces c [])) where
+module _ (d : List ℕ) (z : ℤ) (c : ℕ) (t : Bool) (f : SFits w64 z) (e : z ≡ signedAt d 8 0) (g : c ≡ numberAt d 1 8) (h : t ≡ areMarks d (getD markPlaces c [])) where
   pub message-whole : (b : Body) → t ≡ true → b ≡ bodyIn (bodiesAt d) c c → _≡_ {A = Message} (record { «op_id» = toZ w64 (ofZ w64 z); body = b }) (messageAt d)
   unfolding messageAt bodyAt
   message-whole b y q = rw (toZ-ofZ w64 z f, e, ← g, ← h, y, q)

@@ -2,24 +2,13 @@
 use Prim.Native.Nat.{ℕ, _+_, _*_}
 use mathlib.Core.Bool.{Bool}
 use mathlib.Core.List.{List, [], _∷_, _++_}
-use lib.IntN.{ℤ}
-use lib.Ieee.{Float, binary64, toBits}
-use lib.ListN.{replicate}
-use Rattle.octets.specs.Choice.{either}
-use Rattle.octets.specs.Bytes.{bigBytes, littleBytes, putAt}
+use lib.{IntN.ℤ, Ieee.Float, Ieee.binary64, Ieee.toBits, ListN.replicate}
+use Rattle.octets.specs.Bytes.{bigBytes, littleBytes, putAt, markByte}
 use Rattle.octets.specs.Signed.{bitsOf}
 use Rattle.field.specs.declared.Position.{Position}
 use Rattle.message.specs.declared.MaybeVersion.{MaybeVersion}
-use Rattle.record.specs.declared.Sixteen.{Sixteen}
-use Rattle.record.specs.declared.Con.{Con}
-use Rattle.record.specs.declared.ConRsp.{ConRsp}
-use Rattle.record.specs.declared.StatusRsp.{StatusRsp}
-use Rattle.record.specs.declared.Packet.{Packet}
-use Rattle.record.specs.declared.Det.{Det}
-use Rattle.record.specs.declared.AttPrp.{AttPrp}
-use Rattle.record.specs.declared.UlData.{UlData}
-use Rattle.record.specs.declared.Body.{Body}
-use Rattle.record.specs.declared.Message.{Message}
+use Rattle.record.specs.declared.{Sixteen.Sixteen, Con.Con, ConRsp.ConRsp, StatusRsp.StatusRsp, Packet.Packet, Det.Det, AttPrp.AttPrp, UlData.UlData}
+use Rattle.record.specs.declared.{Body.Body, Message.Message}
 use Rattle.record.specs.Record.{commandIn}
 
 -- a value at its place: a number of so many bytes, little or big endian; a signed number of so many; a real; a mark
@@ -30,23 +19,19 @@ pub data Stretch : Type 0 where
   real : ℕ → Float → Stretch
   flag : ℕ → Bool → Stretch
 
-abbrev pub placeOf : Stretch → ℕ
-placeOf (Stretch.number n p x) = p
-placeOf (Stretch.high n p x) = p
-placeOf (Stretch.signed n p z) = p
-placeOf (Stretch.real p x) = p
-placeOf (Stretch.flag p b) = p
+abbrev pub startOf : Stretch → ℕ
+startOf (Stretch.number n p x) = p
+startOf (Stretch.high n p x) = p
+startOf (Stretch.signed n p z) = p
+startOf (Stretch.real p x) = p
+startOf (Stretch.flag p b) = p
 
--- a mark is 0 or 1
-abbrev pub markByte : Bool → ℕ
-markByte b = either b (λ _. 1) (λ _. 0)
-
-abbrev pub bytesOf : Stretch → List ℕ
-bytesOf (Stretch.number n p x) = littleBytes n x
-bytesOf (Stretch.high n p x) = bigBytes n x
-bytesOf (Stretch.signed n p z) = littleBytes n (bitsOf (8 * n) z)
-bytesOf (Stretch.real p x) = littleBytes 8 (toBits binary64 x)
-bytesOf (Stretch.flag p b) = littleBytes 1 (markByte b)
+abbrev pub stretchBytes : Stretch → List ℕ
+stretchBytes (Stretch.number n p x) = littleBytes n x
+stretchBytes (Stretch.high n p x) = bigBytes n x
+stretchBytes (Stretch.signed n p z) = littleBytes n (bitsOf (8 * n) z)
+stretchBytes (Stretch.real p x) = littleBytes 8 (toBits binary64 x)
+stretchBytes (Stretch.flag p b) = littleBytes 1 (markByte b)
 
 -- what has several parts
 abbrev pub sixteenLies : ℕ → Sixteen → List Stretch
@@ -160,7 +145,7 @@ abbrev pub messageLies : Message → List Stretch
 messageLies m = headLies (m .«op_id») (commandIn (m .body)) ++ bodyLies (m .body)
 
 abbrev pub lay : Stretch → List ℕ → List ℕ
-lay s d = putAt d (placeOf s) (bytesOf s)
+lay s d = putAt d (startOf s) (stretchBytes s)
 
 unfoldable pub laid : List Stretch → List ℕ → List ℕ
 laid [] d = d
@@ -169,8 +154,8 @@ laid (s ∷ ss) d = laid ss (lay s d)
 abbrev pub messageSize : ℕ
 messageSize = 104
 
-unfoldable pub zeros : List ℕ
-zeros = replicate messageSize 0
+unfoldable pub clearImage : List ℕ
+clearImage = replicate messageSize 0
 
 unfoldable pub messageImage : Message → List ℕ
-messageImage m = laid (messageLies m) zeros
+messageImage m = laid (messageLies m) clearImage

@@ -1,22 +1,7 @@
 // The fields of each command to where they lie. What has no room is not put.
-use crate::leaf::bits32;
-use crate::leaf::mark_bits;
-use crate::leaf::real_bits;
-use crate::leaf::wide8;
-use crate::leaf::wide16;
-use crate::leaf::wide32;
-use message::MaybeVersion;
-use octets::bits_of;
-use octets::put_big;
-use octets::put_little;
-use record::AttPrp;
+use crate::leaf;
 use record::Con;
-use record::ConRsp;
-use record::Det;
-use record::Packet;
-use record::Sixteen;
 use record::StatusRsp;
-use record::UlData;
 ghost use mathlib.Core.Path.{_≡_};
 ghost use Prim.Native.Nat.{_+_, _≤_};
 ghost use lib.ListN.{take};
@@ -25,63 +10,63 @@ ghost use Rattle.layout.specs.Image.{Stretch, sixteenLies, versionLies, 
 pub fn put_small(d: &mut [u8], at: usize, x: u8)
     ensures { λ _. ⌜ now (d .exit) ≡ lay (Stretch.number 1 at x) (now (d .entry)) ⌝ }
 {
-    put_little(d, at, 1, wide8(x));
+    octets::put_little(d, at, 1, leaf::wide8(x));
 }
 
 fn put_short(d: &mut [u8], at: usize, x: u16)
     ensures { λ _. ⌜ now (d .exit) ≡ lay (Stretch.number 2 at x) (now (d .entry)) ⌝ }
 {
-    put_little(d, at, 2, wide16(x));
+    octets::put_little(d, at, 2, leaf::wide16(x));
 }
 
 fn put_count(d: &mut [u8], at: usize, x: u32)
     ensures { λ _. ⌜ now (d .exit) ≡ lay (Stretch.number 4 at x) (now (d .entry)) ⌝ }
 {
-    put_little(d, at, 4, wide32(x));
+    octets::put_little(d, at, 4, leaf::wide32(x));
 }
 
 pub fn put_word(d: &mut [u8], at: usize, x: u64)
     ensures { λ _. ⌜ now (d .exit) ≡ lay (Stretch.number 8 at x) (now (d .entry)) ⌝ }
 {
-    put_little(d, at, 8, x);
+    octets::put_little(d, at, 8, x);
 }
 
 pub fn put_four(d: &mut [u8], at: usize, x: u32)
     ensures { λ _. ⌜ now (d .exit) ≡ lay (Stretch.high 4 at x) (now (d .entry)) ⌝ }
 {
-    put_big(d, at, 4, wide32(x));
+    octets::put_big(d, at, 4, leaf::wide32(x));
 }
 
 pub fn put_id(d: &mut [u8], at: usize, z: i64)
     ensures { λ _. ⌜ now (d .exit) ≡ lay (Stretch.signed 8 at z) (now (d .entry)) ⌝ }
 {
-    put_little(d, at, 8, bits_of(z));
+    octets::put_little(d, at, 8, octets::bits_of(z));
 }
 
 fn put_code(d: &mut [u8], at: usize, z: i32)
     ensures { λ _. ⌜ now (d .exit) ≡ lay (Stretch.signed 4 at z) (now (d .entry)) ⌝ }
 {
-    put_little(d, at, 4, bits32(z));
+    octets::put_little(d, at, 4, octets::bits32_of(z));
 }
 
 fn put_real(d: &mut [u8], at: usize, x: f64)
     ensures { λ _. ⌜ now (d .exit) ≡ lay (Stretch.real at x) (now (d .entry)) ⌝ }
 {
-    put_little(d, at, 8, real_bits(x));
+    octets::put_little(d, at, 8, forms::real_bits(x));
 }
 
 fn put_mark(d: &mut [u8], at: usize, x: bool)
     ensures { λ _. ⌜ now (d .exit) ≡ lay (Stretch.flag at x) (now (d .entry)) ⌝ }
 {
-    put_little(d, at, 1, mark_bits(x));
+    octets::put_little(d, at, 1, leaf::mark_bits(x));
 }
 
-fn put_sixteen(d: &mut [u8], at: usize, x: Sixteen)
+fn put_sixteen(d: &mut [u8], at: usize, x: record::Sixteen)
     requires { ⌜ at ≤ 88 ⌝ }
     ensures { λ _. ⌜ now (d .exit) ≡ laid (sixteenLies at x) (now (d .entry)) ⌝ }
 {
-    put_big(d, at, 8, x.high);
-    put_big(d, at + 8, 8, x.low);
+    octets::put_big(d, at, 8, x.high);
+    octets::put_big(d, at + 8, 8, x.low);
 }
 
 // Two words, three reals and three marks, one behind the other.
@@ -111,7 +96,7 @@ fn put_marks(d: &mut [u8], at: usize, x: bool, y: bool, z: bool)
     put_mark(d, at + 2, z);
 }
 
-fn put_version(d: &mut [u8], at: usize, v: MaybeVersion)
+fn put_version(d: &mut [u8], at: usize, v: message::MaybeVersion)
     requires { ⌜ at ≤ 97 ⌝ }
     ensures { λ _. ⌜ now (d .exit) ≡ laid (versionLies at v) (now (d .entry)) ⌝ }
 {
@@ -148,7 +133,7 @@ pub fn put_con(d: &mut [u8], x: Con)
     put_mark(d, 90, x.sn_sc_op_id.here);
 }
 
-pub fn put_con_rsp(d: &mut [u8], x: ConRsp)
+pub fn put_con_rsp(d: &mut [u8], x: record::ConRsp)
     ensures { λ _. ⌜ now (d .exit) ≡ laid (conRspLies x) (now (d .entry)) ⌝ }
 {
     let uuid = x.sn_sc_uuid;
@@ -185,7 +170,7 @@ pub fn put_status_rsp(d: &mut [u8], x: StatusRsp)
     put_mark(d, 97, x.mem_load.here);
 }
 
-fn put_packet(d: &mut [u8], p: Packet)
+fn put_packet(d: &mut [u8], p: record::Packet)
     ensures { λ _. ⌜ now (d .exit) ≡ laid (packetLies p) (now (d .entry)) ⌝ }
 {
     let profile = p.profile;
@@ -199,7 +184,7 @@ fn put_packet(d: &mut [u8], p: Packet)
     put_mark(d, 86, p.signal.has_eq_snr);
 }
 
-pub fn put_det(d: &mut [u8], x: Det)
+pub fn put_det(d: &mut [u8], x: record::Det)
     ensures { λ _. ⌜ now (d .exit) ≡ laid (detLies x) (now (d .entry)) ⌝ }
 {
     let p = x.packet;
@@ -207,7 +192,7 @@ pub fn put_det(d: &mut [u8], x: Det)
     put_four(d, 88, x.sign);
 }
 
-pub fn put_att_prp(d: &mut [u8], x: AttPrp)
+pub fn put_att_prp(d: &mut [u8], x: record::AttPrp)
     ensures { λ _. ⌜ now (d .exit) ≡ laid (attPrpLies x) (now (d .entry)) ⌝ }
 {
     let key = x.nwk_sn_key;
@@ -220,7 +205,7 @@ pub fn put_att_prp(d: &mut [u8], x: AttPrp)
     put_mark(d, 50, x.long_blk_dist);
 }
 
-pub fn put_ul_data(d: &mut [u8], x: UlData)
+pub fn put_ul_data(d: &mut [u8], x: record::UlData)
     ensures { λ _. ⌜ now (d .exit) ≡ laid (ulDataLies x) (now (d .entry)) ⌝ }
 {
     let p = x.packet;

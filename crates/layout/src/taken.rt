@@ -1,6 +1,5 @@
 // The fields of each command from where they lie. Any bytes may be handed in.
 use crate::leaf::real_from;
-use crate::leaf::signed32;
 use field::Position;
 use message::MaybeId;
 use message::MaybePosition;
@@ -8,9 +7,7 @@ use message::MaybeReal;
 use message::MaybeVersion;
 use message::MaybeWord;
 use message::Signal;
-use octets::big_at;
-use octets::little_at;
-use octets::signed_of;
+use names::numbers;
 use record::AttPrp;
 use record::Body;
 use record::Con;
@@ -20,63 +17,62 @@ use record::Packet;
 use record::Sixteen;
 use record::StatusRsp;
 use record::UlData;
-ghost use mathlib.Core.Path.{_≡_};
-ghost use mathlib.Core.List.{[]};
+ghost use mathlib.Core.{Path._≡_, List.[]};
 ghost use Prim.Native.Nat.{_+_, _≤_};
 ghost use lib.ListN.{getD};
 ghost use Rattle.record.specs.Record.{bodyIn};
-ghost use Rattle.layout.specs.Taken.{places, markPlaces, number, high, signed, real, flag, areMarks, sixteenAt, positionAt, versionAt, conAt, conRspAt, statusRspAt, signalAt, packetAt, detAt, attPrpAt, ulDataAt, bodiesAt};
+ghost use Rattle.layout.specs.Taken.{places, markPlaces, numberAt, highAt, signedAt, realAt, flagAt, areMarks, sixteenAt, positionAt, versionAt, conAt, conRspAt, statusRspAt, signalAt, packetAt, detAt, attPrpAt, ulDataAt, bodiesAt};
 
 pub fn byte(d: &[u8], at: usize) -> u8
-    ensures { λ r. ⌜ r ≡ number (now (d .entry)) 1 at ⌝ }
+    ensures { λ r. ⌜ r ≡ numberAt (now (d .entry)) 1 at ⌝ }
 {
-    little_at(d, at, 1) as u8
+    octets::little_at(d, at, 1) as u8
 }
 
 fn is_set(d: &[u8], at: usize) -> bool
-    ensures { λ r. ⌜ r ≡ flag (now (d .entry)) at ⌝ }
+    ensures { λ r. ⌜ r ≡ flagAt (now (d .entry)) at ⌝ }
 {
     byte(d, at) != 0
 }
 
 fn short(d: &[u8], at: usize) -> u16
-    ensures { λ r. ⌜ r ≡ number (now (d .entry)) 2 at ⌝ }
+    ensures { λ r. ⌜ r ≡ numberAt (now (d .entry)) 2 at ⌝ }
 {
-    little_at(d, at, 2) as u16
+    octets::little_at(d, at, 2) as u16
 }
 
 fn count(d: &[u8], at: usize) -> u32
-    ensures { λ r. ⌜ r ≡ number (now (d .entry)) 4 at ⌝ }
+    ensures { λ r. ⌜ r ≡ numberAt (now (d .entry)) 4 at ⌝ }
 {
-    little_at(d, at, 4) as u32
+    octets::little_at(d, at, 4) as u32
 }
 
 fn word(d: &[u8], at: usize) -> u64
-    ensures { λ r. ⌜ r ≡ number (now (d .entry)) 8 at ⌝ }
+    ensures { λ r. ⌜ r ≡ numberAt (now (d .entry)) 8 at ⌝ }
 {
-    little_at(d, at, 8)
+    octets::little_at(d, at, 8)
 }
 
 fn four(d: &[u8], at: usize) -> u32
-    ensures { λ r. ⌜ r ≡ high (now (d .entry)) 4 at ⌝ }
+    ensures { λ r. ⌜ r ≡ highAt (now (d .entry)) 4 at ⌝ }
 {
-    big_at(d, at, 4) as u32
+    octets::big_at(d, at, 4) as u32
 }
 
 pub fn id(d: &[u8], at: usize) -> i64
-    ensures { λ r. ⌜ r ≡ signed (now (d .entry)) 8 at ⌝ }
+    ensures { λ r. ⌜ r ≡ signedAt (now (d .entry)) 8 at ⌝ }
 {
-    signed_of(word(d, at))
+    octets::signed_of(word(d, at))
 }
 
 fn code(d: &[u8], at: usize) -> i32
-    ensures { λ r. ⌜ r ≡ signed (now (d .entry)) 4 at ⌝ }
+    ensures { λ r. ⌜ r ≡ signedAt (now (d .entry)) 4 at ⌝ }
 {
-    signed32(count(d, at))
+    octets::signed32_of(count(d, at))
 }
 
 fn figure(d: &[u8], at: usize) -> f64
-    ensures { λ r. ⌜ r ≡ real (now (d .entry)) at ⌝ }
+    ensures { λ r. ⌜ r ≡ realAt (now (d .entry)) at ⌝ }
 {
     real_from(word(d, at))
 }
@@ -86,8 +82,8 @@ fn sixteen(d: &[u8], at: usize) -> Sixteen
     ensures { λ r. ⌜ r ≡ sixteenAt (now (d .entry)) at ⌝ }
 {
     Sixteen {
-        high: big_at(d, at, 8),
-        low: big_at(d, at + 8, 8),
+        high: octets::big_at(d, at, 8),
+        low: octets::big_at(d, at + 8, 8),
     }
 }
 
@@ -263,15 +259,15 @@ pub fn is_marked(d: &[u8], c: u8) -> bool
     ensures { λ r. ⌜ r ≡ areMarks (now (d .entry)) (getD markPlaces c []) ⌝ }
 {
     match c {
-        0 => are_marks(d, 86, 5),
-        1 => are_marks(d, 46, 2),
-        2 => are_marks(d, 93, 5),
-        3 => are_marks(d, 85, 2),
-        4 => true,
-        5 => are_marks(d, 46, 5),
-        6 => true,
-        7 => are_marks(d, 85, 2) & are_marks(d, 90, 3),
-        8..=255 => true,
+        numbers::CON => are_marks(d, 86, 5),
+        numbers::CON_RSP => are_marks(d, 46, 2),
+        numbers::STATUS_RSP => are_marks(d, 93, 5),
+        numbers::DET => are_marks(d, 85, 2),
+        numbers::DET_RSP => true,
+        numbers::ATT_PRP => are_marks(d, 46, 5),
+        numbers::DET_PRP => true,
+        numbers::UL_DATA => are_marks(d, 85, 2) & are_marks(d, 90, 3),
+        numbers::CON_CMP..=255 => true,
     }
 }
 
@@ -279,14 +275,14 @@ pub fn body_in(d: &[u8], c: u8) -> Body
     ensures { λ r. ⌜ r ≡ bodyIn (bodiesAt (now (d .entry))) c c ⌝ }
 {
     match c {
-        0 => Body::Con(con_in(d)),
-        1 => Body::ConRsp(con_rsp_in(d)),
-        2 => Body::StatusRsp(status_rsp_in(d)),
-        3 => Body::Det(det_in(d)),
-        4 => Body::DetRsp(four(d, 16)),
-        5 => Body::AttPrp(att_prp_in(d)),
-        6 => Body::DetPrp(word(d, 16)),
-        7 => Body::UlData(ul_data_in(d)),
-        8..=255 => Body::Bare(c),
+        numbers::CON => Body::Con(con_in(d)),
+        numbers::CON_RSP => Body::ConRsp(con_rsp_in(d)),
+        numbers::STATUS_RSP => Body::StatusRsp(status_rsp_in(d)),
+        numbers::DET => Body::Det(det_in(d)),
+        numbers::DET_RSP => Body::DetRsp(four(d, 16)),
+        numbers::ATT_PRP => Body::AttPrp(att_prp_in(d)),
+        numbers::DET_PRP => Body::DetPrp(word(d, 16)),
+        numbers::UL_DATA => Body::UlData(ul_data_in(d)),
+        numbers::CON_CMP..=255 => Body::Bare(c),
     }
 }

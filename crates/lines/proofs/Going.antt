@@ -1,24 +1,19 @@
 -- The turns come to an end, whatever arrives and however it is cut: a turn that passes over a frame leaves fewer bytes, and one that waits takes
 -- a piece or is told the end. So what they print is the one text of the whole input. Assumes nothing.
-use mathlib.Core.Path.{_≡_, refl}
-use mathlib.Core.Bool.{Bool, true, false}
+use mathlib.Core.{Path._≡_, Path.refl, Bool.Bool, Bool.true, Bool.false}
 use mathlib.Core.List.{List, [], _∷_, _++_}
-use Prim.Native.Nat.{ℕ, zero, suc, _+_, _-_, _≤_}
+use Prim.Native.Nat.{ℕ, zero, suc, _+_, _≤_}
 use native.Mathlib.Omega.{arith}
 use lib.ListN.{length, drop, length-drop}
 use Rattle.octets.proofs.Ranges.{true-false}
-use Rattle.frame.specs.declared.Framed.{Framed}
-use Rattle.frame.specs.declared.Framed.the-variants.{Whole, Refused}
+use Rattle.frame.specs.declared.Framed.{Framed, the-variants.Whole, the-variants.Refused}
 use Rattle.frame.specs.Frame.{framedOf, payloadOf}
 use Rattle.frame.proofs.Format.{fits}
 use Rattle.record.specs.Meant.{refusedAt}
 use Rattle.reading.specs.declared.Unframed.{Unframed}
-use Rattle.lines.specs.Means.{MeansFramed}
+use Rattle.lines.specs.{Means.MeansFramed, Turn.Printed, Turn.printedOf, Runs.OneTurn, Runs.Runs, Runs.whole}
 use Rattle.lines.proofs.Meaning.{toldAt, told-means, refused-means, whole-means}
-use Rattle.lines.specs.Turn.{Says, saysOf}
-use Rattle.lines.specs.Runs.{Said, Runs, whole}
-use Rattle.lines.proofs.Printing.{prints-once}
-use Rattle.lines.proofs.Running.{Way, said-way, pieces-print}
+use Rattle.lines.proofs.{Printing.prints-once, Running.Way, Running.turn-way, Running.pieces-print}
 
 -- something is read at the start of any bytes
 read-all : (h : List ℕ) → (u : Unframed) × MeansFramed h u
@@ -28,15 +23,15 @@ read-all h = go (framedOf h) refl
     go (Refused k) e = (record { used = 0; told = refusedAt k 0 }, refused-means h k e)
     go (Whole k) e = let t = toldAt (payloadOf k h) in (record { used = 12 + k; told = t }, whole-means h k e t (told-means (payloadOf k h)))
 
-said-all : (last : Bool) (n : ℕ) (h : List ℕ) → (x : Says) × Said last n h x
-said-all last n h = let r = read-all h in (saysOf last n (length h) (r .0), record { frame = r .0; meant = r .1; says = refl })
+turn-all : (last : Bool) (n : ℕ) (h : List ℕ) → (x : Printed) × OneTurn last n h x
+turn-all last n h = let r = read-all h in (printedOf last n (length h) (r .0), record { frame = r .0; meant = r .1; same = refl })
 
 abbrev Ran : Bool → ℕ → List ℕ → List (List ℕ) → Type 0
 Ran last n h ps = (out : List ℕ) × Runs last n h ps out
 
 -- one turn, by what the bytes behind a frame and a turn that waits lead to
 module _ (last : Bool) (n : ℕ) (h : List ℕ) (ps : List (List ℕ)) where
-  turn-on : (x : Says) → Said last n h x → Way last n h x → ((k : ℕ) → 12 + k ≤ length h → Ran last (suc n) (drop (12 + k) h) ps)
+  turn-on : (x : Printed) → OneTurn last n h x → Way last n h x → ((k : ℕ) → 12 + k ≤ length h → Ran last (suc n) (drop (12 + k) h) ps)
       → (last ≡ false → x .ended ≡ false → x .used ≡ 0 → Ran last n h ps) → Ran last n h ps
   turn-on x s (Way.line size told e w) pass wait =
       let r = pass size (fits h size e) in
@@ -47,15 +42,15 @@ module _ (last : Bool) (n : ℕ) (h : List ℕ) (ps : List (List ℕ)) where
 
 -- by how many bytes are at hand
 abbrev Waits : Bool → List (List ℕ) → Type 0
-Waits last ps = (n : ℕ) (h : List ℕ) (x : Says) → Said last n h x → last ≡ false → x .ended ≡ false → x .used ≡ 0 → Ran last n h ps
+Waits last ps = (n : ℕ) (h : List ℕ) (x : Printed) → OneTurn last n h x → last ≡ false → x .ended ≡ false → x .used ≡ 0 → Ran last n h ps
 
 runs-within : (last : Bool) (ps : List (List ℕ)) → Waits last ps → (most n : ℕ) (h : List ℕ) → length h ≤ most → Ran last n h ps
 runs-within last ps wait zero n h l =
-    let s = said-all last n h in
-    turn-on last n h ps (s .0) (s .1) (said-way last n h (s .0) (s .1)) (λ k g. absurd (omega arith)) (wait n h (s .0) (s .1))
+    let s = turn-all last n h in
+    turn-on last n h ps (s .0) (s .1) (turn-way last n h (s .0) (s .1)) (λ k g. absurd (omega arith)) (wait n h (s .0) (s .1))
 runs-within last ps wait (suc most) n h l =
-    let s = said-all last n h in
-    turn-on last n h ps (s .0) (s .1) (said-way last n h (s .0) (s .1))
+    let s = turn-all last n h in
+    turn-on last n h ps (s .0) (s .1) (turn-way last n h (s .0) (s .1))
     (λ k g. runs-within last ps wait most (suc n) (drop (12 + k) h) (omega (arith, length-drop (12 + k) h))) (wait n h (s .0) (s .1))
 
 -- the end was seen: no turn waits

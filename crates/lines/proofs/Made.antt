@@ -1,38 +1,23 @@
 -- A text is made in a room of 80 bytes: no line is longer, so what stands in front of the place behind its parts is the line. Assumes nothing.
-use mathlib.Core.Path.{_≡_, refl, sym, ap, _∙_}
+use mathlib.Core.Path.{_≡_, sym, ap, _∙_}
 use mathlib.Core.Bool.{Bool, true, false, _&&_}
-use mathlib.Core.List.{List, [], _∷_, _++_, map, append-assoc}
-use Prim.Native.Nat.{ℕ, zero, suc, _+_, _/_, _%_, _≤_}
+use mathlib.Core.List.{List, [], _∷_, _++_, append-assoc}
+use Prim.Native.Nat.{ℕ, zero, suc, _+_, _≤_}
 use native.Mathlib.Omega.{arith}
-use lib.Dec.{T, ltb, leb, eqb, leb→le}
-use lib.IntN.{ℤ, pos, negsuc}
-use lib.ListN.{length, take, length-append}
-use lib.Seq.{length-take-le}
+use lib.Dec.{T, leb, eqb, leb→le}
+use lib.{IntN.ℤ, IntN.pos, IntN.negsuc, ListN.length, ListN.take, ListN.length-append, Seq.length-take-le}
 use mir.Syntax.{w64}
 use mir.Val.{toZ, ofZ, SFits}
 use mir.ValLaws.{toZ-ofZ}
-use Rattle.octets.specs.Choice.{either}
-use Rattle.octets.specs.Bytes.{putAt}
-use Rattle.octets.proofs.Ranges.{both-left, both-right}
-use Rattle.octets.proofs.Places.{append-nil}
-use Rattle.octets.proofs.Writing.{put-upto, length-put}
-use Rattle.forms.specs.Shortest.{digitsOf}
-use Rattle.forms.specs.Put.{Put, put, putParts, joined}
-use Rattle.forms.proofs.Putting.{joined-join, fits-parts}
+use Rattle.octets.specs.{Choice.either, Bytes.putAt}
+use Rattle.octets.proofs.{Ranges.both-left, Ranges.both-right, Writing.put-upto, Writing.length-put}
+use Rattle.forms.specs.code.Put.{Put, put, putParts, joined}
+use Rattle.forms.proofs.{Putting.joined-join, Putting.fits-parts, Decimals.few-digits, Decimals.joined-each}
 use Rattle.names.specs.Names.{bytes, commands, nameAt}
 use Rattle.lines.specs.Lines.{decimal, signedDecimal, newline, counted, outcome, lineFor, endLine, stopLines}
-use Rattle.lines.specs.Parts.{decimalParts, signedParts, countedParts, messageParts, lineParts, stopParts}
+use Rattle.lines.specs.code.Parts.{decimalParts, signedParts, countedParts, messageParts, lineParts, stopParts}
 
 -- the parts are the line's bytes
-joined-each : (xs : List ℕ) → joined (map (λ x. x ∷ []) xs) ≡ xs
-unfolding joined
-joined-each [] = refl
-joined-each (x ∷ xs) = ap (λ (l : List ℕ). x ∷ l) (joined-each xs)
-
-joined-one : (l : List ℕ) → joined (l ∷ []) ≡ l
-unfolding joined
-joined-one l = append-nil l
-
 joined-signed : (z : ℤ) → joined (signedParts z) ≡ signedDecimal z
 unfolding joined signedParts signedDecimal
 joined-signed (pos n) = joined-each (decimal n)
@@ -64,15 +49,6 @@ unfolding stopParts stopLines
 joined-stop number refusal = simp (joined-join, joined-each, joined-counted)
 
 -- and they are few
-few-digits : (most n : ℕ) → length (digitsOf most n) ≤ most
-unfolding digitsOf
-few-digits zero n = omega arith
-few-digits (suc most) n = go (ltb n 10) (few-digits most (n / 10))
-  where
-    go : (t : Bool) → length (digitsOf most (n / 10)) ≤ most → length (either t (λ _. (0x30 + n) ∷ []) (λ _. digitsOf most (n / 10) ++ ((0x30 + n % 10) ∷ []))) ≤ suc most
-    go true h = omega arith
-    go false h = omega (arith, length-append (digitsOf most (n / 10)) ((0x30 + n % 10) ∷ []))
-
 few-signed : (z : ℤ) → length (signedDecimal z) ≤ 21
 unfolding signedDecimal
 few-signed (pos n) = omega (arith, few-digits 20 n)

@@ -1,14 +1,11 @@
 -- What is told of a payload, and of the bytes that arrived, with bytes lent and thrown away: something is, and no second thing. Assumes nothing.
-use mathlib.Core.Path.{_≡_, refl, sym, ap, subst, _∙_}
-use mathlib.Core.List.{List}
+use mathlib.Core.{Path._≡_, Path.refl, Path.ap, List.List}
 use Prim.Native.Nat.{ℕ, _+_}
 use Rattle.frame.specs.declared.Framed.the-variants.{Whole, Refused}
 use Rattle.frame.specs.Frame.{framedOf, payloadOf}
 use Rattle.record.specs.declared.Told.{Told}
-use Rattle.record.specs.Meant.{Answer, refusedAt}
-use Rattle.record.specs.Places.{answerAt}
-use Rattle.record.proofs.Answered.{answer-meant}
-use Rattle.record.proofs.Answers.{one-answer}
+use Rattle.record.specs.{Meant.Answered, Meant.refusedAt, code.Places.answerAt}
+use Rattle.record.proofs.{Answered.answer-meant, Answers.one-answer}
 use Rattle.reading.specs.declared.Unframed.{Unframed}
 use Rattle.reading.proofs.Framing as framing
 use Rattle.reading.proofs.Settled.{read-framed-settled}
@@ -21,7 +18,7 @@ pub told-means : (s : List ℕ) → Means s (toldAt s)
 told-means s = record { lent = answerAt s scratch .lent; meant = answer-meant s scratch }
 
 pub means-once : (s : List ℕ) (r q : Told) → Means s r → Means s q → r ≡ q
-means-once s r q m n = ap (λ (a : Answer). a .told) (one-answer s scratch _ _ (m .meant) (n .meant))
+means-once s r q m n = ap (λ (a : Answered). a .told) (one-answer s scratch _ _ (m .meant) (n .meant))
 
 -- by the frame's answer
 module _ (s : List ℕ) (k : ℕ) where
@@ -29,7 +26,7 @@ module _ (s : List ℕ) (k : ℕ) where
   refused-means e = record { lent = scratch; meant = framing.refused-meant s scratch k e (refusedAt k 0) refl }
 
   pub refused-told : framedOf s ≡ Refused k → (u : Unframed) → MeansFramed s u → u .told ≡ refusedAt k 0
-  refused-told e u m = ap (λ (a : Answer). a .told) (framing.refused-told s scratch k e u (m .lent) (m .meant))
+  refused-told e u m = ap (λ (a : Answered). a .told) (framing.refused-told s scratch k e u (m .lent) (m .meant))
 
   pub whole-means : framedOf s ≡ Whole k → (t : Told) → Means (payloadOf k s) t → MeansFramed s (record { used = 12 + k; told = t })
   whole-means e t m = record { lent = m .lent; meant = framing.whole-meant s scratch k e t (m .lent) (m .meant) }

@@ -1,17 +1,15 @@
 -- A frame that is whole in a piece is the same frame in the whole input, and a refusal by 2 or 3 stays: only 1 waits for more bytes, and never for
 -- more than 4,108. By the definition's tests, one after another. Assumes nothing.
 use mathlib.Core.Path.{_≡_, refl, ap, _∙_}
-use mathlib.Core.Bool.{Bool, true, false, _||_}
+use mathlib.Core.Bool.{Bool, true, false}
 use mathlib.Core.List.{List, [], _∷_, _++_}
-use Prim.Native.Nat.{ℕ, _+_, _-_, _≤_, _<_}
+use Prim.Native.Nat.{ℕ, _+_, _≤_, _<_}
 use native.Mathlib.Omega.{arith}
-use lib.Dec.{ltb, eqb}
+use lib.{Dec.ltb, Dec.eqb, Seq.take-append-le, Seq.drop-append-le}
 use lib.ListN.{length, take, drop, length-append, length-drop, List·getD-append}
-use lib.Seq.{take-append-le, drop-append-le}
 use borrow.Author.Tests.{lt-ltb, le-ltb, ltb-true, ltb-false}
-use Rattle.octets.specs.Choice.{either}
-use Rattle.octets.proofs.Ranges.{true-false}
-use Rattle.octets.proofs.Places.{same-little}
+use Rattle.octets.specs.{Choice.either, Size.isSize}
+use Rattle.octets.proofs.{Ranges.true-false, Sizes.sized-most, Places.same-little}
 use Rattle.frame.specs.declared.Framed.the-variants.{Whole, Refused}
 use Rattle.frame.specs.Frame.{identifier, agrees, framedOf, payloadOf, sizeOf}
 use Rattle.frame.proofs.Format.{fits}
@@ -49,9 +47,6 @@ module _ (a b : List ℕ) where
     short-waits h = simp (e, lt-ltb (length a) 12 h)
 
     module _ (h : 12 ≤ length a) where
-      abbrev wrong : Bool
-      wrong = eqb (sizeOf a) 0 || ltb 4096 (sizeOf a)
-
       long : length (a ++ b) ≡ length a + length b
       long = length-append a b
 
@@ -62,13 +57,13 @@ module _ (a b : List ℕ) where
       size-both : sizeOf (a ++ b) ≡ sizeOf a
       size-both = same-little (a ++ b) a 8 8 4 (λ k l. List·getD-append a b 0 (8 + k) (omega arith))
 
-      wrong-stays : wrong ≡ true → framedOf (a ++ b) ≡ framedOf a
+      missized-stays : isSize (sizeOf a) ≡ false → framedOf (a ++ b) ≡ framedOf a
       unfolding framedOf
-      wrong-stays w =
+      missized-stays w =
           let l = long in
           simp (agrees-both, e, le-ltb (length a) 12 h, le-ltb (length (a ++ b)) 12 (omega arith), size-both, w)
 
-      module _ (w : wrong ≡ false) where
+      module _ (w : isSize (sizeOf a) ≡ true) where
         cut-waits : length a < 12 + sizeOf a → framedOf a ≡ Refused 1
         unfolding framedOf
         cut-waits l = simp (e, le-ltb (length a) 12 h, w, lt-ltb (length a) (12 + sizeOf a) l)
@@ -82,17 +77,17 @@ module _ (a b : List ℕ) where
   pub straddles : (framedOf a ≡ Refused 1 → ⊥) → framedOf (a ++ b) ≡ framedOf a
   straddles f = by-identifier (agrees identifier a) refl
     where
-      by-whole : (e : agrees identifier a ≡ true) (h : 12 ≤ length a) (w : wrong e h ≡ false) (t : Bool) → ltb (length a) (12 + sizeOf a) ≡ t → framedOf (a ++ b) ≡ framedOf a
+      by-whole : (e : agrees identifier a ≡ true) (h : 12 ≤ length a) (w : isSize (sizeOf a) ≡ true) (t : Bool) → ltb (length a) (12 + sizeOf a) ≡ t → framedOf (a ++ b) ≡ framedOf a
       by-whole e h w true q = absurd (f (cut-waits e h w (ltb-true (length a) (12 + sizeOf a) q)))
       by-whole e h w false q = whole-stays e h w (ltb-false (length a) (12 + sizeOf a) q)
 
-      by-size : (e : agrees identifier a ≡ true) (h : 12 ≤ length a) (t : Bool) → wrong e h ≡ t → framedOf (a ++ b) ≡ framedOf a
-      by-size e h true w = wrong-stays e h w
-      by-size e h false w = by-whole e h w (ltb (length a) (12 + sizeOf a)) refl
+      by-size : (e : agrees identifier a ≡ true) (h : 12 ≤ length a) (t : Bool) → isSize (sizeOf a) ≡ t → framedOf (a ++ b) ≡ framedOf a
+      by-size e h false w = missized-stays e h w
+      by-size e h true w = by-whole e h w (ltb (length a) (12 + sizeOf a)) refl
 
       by-length : (e : agrees identifier a ≡ true) (t : Bool) → ltb (length a) 12 ≡ t → framedOf (a ++ b) ≡ framedOf a
       by-length e true q = absurd (f (short-waits e (ltb-true (length a) 12 q)))
-      by-length e false q = by-size e (ltb-false (length a) 12 q) (wrong e (ltb-false (length a) 12 q)) refl
+      by-length e false q = by-size e (ltb-false (length a) 12 q) (isSize (sizeOf a)) refl
 
       by-identifier : (t : Bool) → agrees identifier a ≡ t → framedOf (a ++ b) ≡ framedOf a
       by-identifier false e = strange-stays e
@@ -115,21 +110,17 @@ module _ (a b : List ℕ) where
     rest-straddles = drop-append-le (12 + n) a b (fits a n e)
 
 -- with 4,108 bytes at hand no frame is incomplete
-tests-complete : (a b c d : Bool) (m : ℕ) → b ≡ false → (c ≡ false → d ≡ false) → either a (λ _. either b (λ _. Refused 1) (λ _. either c (λ _. Refused 3) (λ _. either d (λ _. Refused 1) (λ _. Whole m)))) (λ _. Refused 2) ≡ Refused 1 → ⊥
+tests-complete : (a b c d : Bool) (m : ℕ) → b ≡ false → (c ≡ true → d ≡ false) → either a (λ _. either b (λ _. Refused 1) (λ _. either c (λ _. either d (λ _. Refused 1) (λ _. Whole m)) (λ _. Refused 3))) (λ _. Refused 2) ≡ Refused 1 → ⊥
 tests-complete false b c d m p q e = let z : _≡_ {A = ℕ} 1 2 = cc in omega arith
 tests-complete true true c d m p q e = true-false p
-tests-complete true false true d m p q e = let z : _≡_ {A = ℕ} 1 3 = cc in omega arith
-tests-complete true false false true m p q e = true-false (q refl)
-tests-complete true false false false m p q e = let z : _≡_ {A = ℕ} 0 1 = cc in omega arith
-
-neither : (x y : Bool) → x || y ≡ false → y ≡ false
-neither true y e = true-false e
-neither false y e = e
+tests-complete true false false d m p q e = let z : _≡_ {A = ℕ} 1 3 = cc in omega arith
+tests-complete true false true true m p q e = true-false (q refl)
+tests-complete true false true false m p q e = let z : _≡_ {A = ℕ} 0 1 = cc in omega arith
 
 pub enough : (s : List ℕ) → 4108 ≤ length s → framedOf s ≡ Refused 1 → ⊥
 unfolding framedOf
 enough s h e =
-    tests-complete (agrees identifier s) (ltb (length s) 12) (eqb (sizeOf s) 0 || ltb 4096 (sizeOf s)) (ltb (length s) (12 + sizeOf s)) (sizeOf s)
+    tests-complete (agrees identifier s) (ltb (length s) 12) (isSize (sizeOf s)) (ltb (length s) (12 + sizeOf s)) (sizeOf s)
     (le-ltb (length s) 12 (omega arith))
-    (λ w. le-ltb (length s) (12 + sizeOf s) (omega (arith, ltb-false 4096 (sizeOf s) (neither (eqb (sizeOf s) 0) (ltb 4096 (sizeOf s)) w))))
+    (λ w. le-ltb (length s) (12 + sizeOf s) (omega (arith, sized-most (sizeOf s) w)))
     e

@@ -2,8 +2,7 @@
 -- `frames` and the count of whole frames.
 use Prim.Native.Nat.{ℕ, suc}
 use mathlib.Core.List.{List, [], _∷_, _++_}
-use lib.Dec.{eqb}
-use lib.IntN.{ℤ, pos, negsuc}
+use lib.{Dec.eqb, IntN.ℤ, IntN.pos, IntN.negsuc}
 use Rattle.octets.specs.Choice.{either}
 use Rattle.forms.specs.Shortest.{digitsOf}
 use Rattle.names.specs.Names.{bytes, commands, nameAt}

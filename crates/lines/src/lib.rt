@@ -1,17 +1,10 @@
 // What the program prints of the frames that arrive, turn by turn.
 mod text;
 
-use record::command_in;
-use text::put_counted;
-use text::put_line;
-use text::put_stop;
-ghost use mathlib.Core.Path.{_≡_};
-ghost use mathlib.Core.Bool.{_&&_, not};
-ghost use mathlib.Core.List.{[], _∷_};
+ghost use mathlib.Core.{Path._≡_, Bool._&&_, Bool.not, List.[], List._∷_};
 ghost use lib.Dec.{eqb};
-ghost use Rattle.forms.specs.Put.{Put, put, putParts};
-ghost use Rattle.lines.specs.Lines.{lineFor, endLine, stopLines};
-ghost use Rattle.lines.specs.Turn.{saysRefused, Shows, Turned};
+ghost use Rattle.forms.specs.code.Put.{Put, put, putParts};
+ghost use Rattle.lines.specs.{Lines.lineFor, Lines.endLine, Lines.stopLines, Turn.printedRefused, Turn.Shows, Turn.Turned};
 
 // How many of the bytes at hand are used, how many of the room's are to be printed, and whether they are the last.
 pub struct Took {
@@ -36,7 +29,7 @@ pub fn turn(bytes: &[u8], last: bool, number: u64, room: &mut [u8]) -> Took
     let m = told.message;
     let op_id = m.op_id;
     let b = m.body;
-    let length = line(room, number, refusal, command_in(b), op_id);
+    let length = line(room, number, refusal, record::command_in(b), op_id);
     Took {
         used: used,
         length: length,
@@ -46,7 +39,7 @@ pub fn turn(bytes: &[u8], last: bool, number: u64, room: &mut [u8]) -> Took
 
 // No whole frame: more bytes are waited for, or none is left, or the frame is refused.
 fn refused(room: &mut [u8], last: bool, number: u64, len: usize, refusal: u8) -> Took
-    ensures { λ r. ⌜ Shows (saysRefused last number len refusal) (now (room .entry)) (now (room .exit)) r ⌝ }
+    ensures { λ r. ⌜ Shows (printedRefused last number len refusal) (now (room .entry)) (now (room .exit)) r ⌝ }
 {
     if waits(refusal, last) {
         return Took {
@@ -78,7 +71,7 @@ fn line(room: &mut [u8], number: u64, refusal: u8, command: u8, op_id: i64) -> u
     ensures { λ r. ⌜ _≡_ {A = Put} (put (now (room .exit)) r) (putParts (lineFor number refusal command «op_id» ∷ []) (put (now (room .entry)) 0)) ⌝ }
 {
     let mut text = [0u8; 80];
-    let n = put_line(&mut text, number, refusal, command, op_id);
+    let n = text::put_line(&mut text, number, refusal, command, op_id);
     forms::put_run(room, 0, &text[..n])
 }
 
@@ -86,7 +79,7 @@ fn end(room: &mut [u8], number: u64) -> usize
     ensures { λ r. ⌜ _≡_ {A = Put} (put (now (room .exit)) r) (putParts (endLine number ∷ []) (put (now (room .entry)) 0)) ⌝ }
 {
     let mut text = [0u8; 80];
-    let n = put_counted(&mut text, 0, b"frames ", number);
+    let n = text::put_counted(&mut text, 0, b"frames ", number);
     forms::put_run(room, 0, &text[..n])
 }
 
@@ -94,6 +87,6 @@ fn stop(room: &mut [u8], number: u64, refusal: u8) -> usize
     ensures { λ r. ⌜ _≡_ {A = Put} (put (now (room .exit)) r) (putParts (stopLines number refusal ∷ []) (put (now (room .entry)) 0)) ⌝ }
 {
     let mut text = [0u8; 80];
-    let n = put_stop(&mut text, number, refusal);
+    let n = text::put_stop(&mut text, number, refusal);
     forms::put_run(room, 0, &text[..n])
 }

@@ -1,34 +1,16 @@
 // The text of a line, part by part. Each call answers the place behind what it wrote.
+use forms::put_digits;
 use forms::put_run;
-ghost use mathlib.Core.Path.{_≡_};
-ghost use mathlib.Core.List.{[], _∷_};
-ghost use Prim.Native.Nat.{_+_, _<_};
-ghost use Rattle.forms.specs.Put.{Put, put, putParts};
-ghost use Rattle.forms.specs.Digits.{digitParts};
+ghost use mathlib.Core.{Path._≡_, List.[], List._∷_};
+ghost use Rattle.forms.specs.code.Put.{Put, put, putParts};
 ghost use Rattle.names.specs.Names.{commands, nameAt};
-ghost use Rattle.lines.specs.Parts.{signedParts, countedParts, namedParts, messageParts, lineParts, stopParts};
+ghost use Rattle.lines.specs.code.Parts.{signedParts, countedParts, namedParts, messageParts, lineParts, stopParts};
 
-// The decimal digits of n, each a part, at most so many.
-fn put_digits(room: &mut [u8], at: usize, most: u8, n: u64) -> usize
-    ensures { λ r. ⌜ _≡_ {A = Put} (put (now (room .exit)) r) (putParts (digitParts most n) (put (now (room .entry)) at)) ⌝ }
-{
-    if most == 0 {
-        return at;
-    }
-    if n < 10 {
-        return put_digit(room, at, n as u8);
-    }
-    let next = put_digits(room, at, most - 1, n / 10);
-    put_digit(room, next, (n % 10) as u8)
-}
+// A number below 2^64 has at most so many decimal digits.
+const DIGITS: u8 = 20;
 
-fn put_digit(room: &mut [u8], at: usize, d: u8) -> usize
-    requires { ⌜ d < 10 ⌝ }
-    ensures { λ r. ⌜ _≡_ {A = Put} (put (now (room .exit)) r) (putParts (((0x30 + d) ∷ []) ∷ []) (put (now (room .entry)) at)) ⌝ }
-{
-    let digit = [0x30 + d; 1];
-    put_run(room, at, &digit)
-}
+// Each command's number is below this.
+const COMMANDS: u8 = 21;
 
 // A minus sign where x is below 0, and its digits.
 fn put_signed(room: &mut [u8], at: usize, x: i64) -> usize
@@ -36,9 +18,9 @@ fn put_signed(room: &mut [u8], at: usize, x: i64) -> usize
 {
     if x < 0 {
         let next = put_run(room, at, b"-");
-        return put_digits(room, next, 20, ((-1 - x) as u64) + 1);
+        return put_digits(room, next, DIGITS, ((-1 - x) as u64) + 1);
     }
-    put_digits(room, at, 20, x as u64)
+    put_digits(room, at, DIGITS, x as u64)
 }
 
 // Words, a number and the end of the line.
@@ -46,7 +28,7 @@ pub fn put_counted(room: &mut [u8], at: usize, words: &[u8], n: u64) -> usize
     ensures { λ r. ⌜ _≡_ {A = Put} (put (now (room .exit)) r) (putParts (countedParts (now (words .entry)) n) (put (now (room .entry)) at)) ⌝ }
 {
     let number = put_run(room, at, words);
-    let end = put_digits(room, number, 20, n);
+    let end = put_digits(room, number, DIGITS, n);
     put_run(room, end, b"\n")
 }
 
@@ -54,7 +36,7 @@ pub fn put_counted(room: &mut [u8], at: usize, words: &[u8], n: u64) -> usize
 fn put_name(room: &mut [u8], at: usize, command: u8) -> usize
     ensures { λ r. ⌜ _≡_ {A = Put} (put (now (room .exit)) r) (putParts (nameAt commands command ∷ []) (put (now (room .entry)) at)) ⌝ }
 {
-    if 20 < command {
+    if COMMANDS <= command {
         return at;
     }
     let names =
@@ -84,7 +66,7 @@ fn put_message(room: &mut [u8], at: usize, command: u8, op_id: i64) -> usize
 pub fn put_line(room: &mut [u8], number: u64, refusal: u8, command: u8, op_id: i64) -> usize
     ensures { λ r. ⌜ _≡_ {A = Put} (put (now (room .exit)) r) (putParts (lineParts number refusal command «op_id») (put (now (room .entry)) 0)) ⌝ }
 {
-    let next = put_digits(room, 0, 20, number);
+    let next = put_digits(room, 0, DIGITS, number);
     if refusal == 0 {
         return put_message(room, next, command, op_id);
     }
@@ -94,7 +76,7 @@ pub fn put_line(room: &mut [u8], number: u64, refusal: u8, command: u8, op_id: i
 pub fn put_stop(room: &mut [u8], number: u64, refusal: u8) -> usize
     ensures { λ r. ⌜ _≡_ {A = Put} (put (now (room .exit)) r) (putParts (stopParts number refusal) (put (now (room .entry)) 0)) ⌝ }
 {
-    let next = put_digits(room, 0, 20, number);
+    let next = put_digits(room, 0, DIGITS, number);
     let end = put_counted(room, next, b" refused ", refusal as u64);
     put_counted(room, end, b"frames ", number)
 }

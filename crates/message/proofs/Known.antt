@@ -1,11 +1,9 @@
 -- Every key of the field lists is one of the keys, by one computed test over all lists. Assumes nothing.
-use mathlib.Core.Path.{_≡_, sym}
-use mathlib.Core.Bool.{Bool, true, _&&_}
-use mathlib.Core.List.{List, [], _∷_}
+use mathlib.Core.{Path._≡_, Path.sym, Bool.Bool, Bool.true, Bool._&&_, List.List, List.[], List._∷_}
 use Prim.Native.Nat.{ℕ, _<_}
 use lib.Dec.{T, ltb, ltb→lt}
 use Rattle.octets.proofs.Ranges.{both-left, both-right, is-true}
-use Rattle.names.specs.Names.{keys, sameBytes, placeIn, nameAt, slotOf}
+use Rattle.names.specs.{Names.sameBytes, Names.placeIn, Names.nameAt, code.Slots.keys, code.Slots.slotOf}
 use Rattle.names.proofs.Same.{same-eq}
 use Rattle.message.specs.Fields.{Field, lists, fieldsOf}
 use Rattle.message.proofs.KeyKinds.{passes}

@@ -1,16 +1,14 @@
 -- The cell that is looked up under a key among those of a list: one of a field with that key, and where the list lacks it what was there before. By
 -- induction over the list. Assumes nothing.
-use mathlib.Core.Path.{_≡_, refl, sym}
+use mathlib.Core.{Path._≡_, Path.refl, Path.sym, List.List, List.[], List._∷_}
 use mathlib.Core.Bool.{Bool, true, false, not, _&&_}
-use mathlib.Core.List.{List, [], _∷_}
 use Prim.Native.Nat.{ℕ}
 use Rattle.octets.specs.Choice.{either}
 use Rattle.octets.proofs.Ranges.{true-false}
 use Rattle.names.specs.Names.{sameBytes}
 use Rattle.names.proofs.Same.{same-eq}
 use Rattle.field.specs.Cell.{Cell}
-use Rattle.message.specs.Fields.{Field}
-use Rattle.message.specs.Reading.{lookIn}
+use Rattle.message.specs.{Fields.Field, Reading.lookIn}
 use Rattle.message.proofs.KeyKinds.{lacks}
 
 -- each field of a list has a cell for which something holds

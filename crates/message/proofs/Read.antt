@@ -6,24 +6,17 @@ use Prim.Native.Nat.{ℕ, zero, suc, _+_, _≤_, _<_}
 use native.Mathlib.Omega.{arith}
 use lib.Dec.{T, eqb, eqb→eq, lit<}
 use lib.ListN.{length, getD, drop}
-use Rattle.octets.proofs.Places.{append-nil}
-use Rattle.octets.proofs.Ranges.{ranged, both-left, both-right}
+use Rattle.octets.proofs.{Places.append-nil, Ranges.ranged, Ranges.both-left, Ranges.both-right}
 use Rattle.element.specs.declared.Shape.the-variants.{Map}
-use Rattle.element.specs.Form.{Role}
-use Rattle.element.specs.Tree.{Tree, bytesOf, bytesOfPairs, countOf, depthOf, pairsOf, IsBody, Lawful, Payload}
-use Rattle.element.specs.Tree.Tree.{leaf, array, map}
-use Rattle.element.specs.Meaning.{Fields, meaningOf}
+use Rattle.element.specs.{Form.Role, Tree.Tree.leaf, Tree.Tree.array, Tree.Tree.map, Meaning.Fields, Meaning.meaningOf}
+use Rattle.element.specs.Tree.{Tree, bytesOf, bytesOfPairs, countOf, depthOf, pairCount, IsBody, Lawful, Payload}
 use Rattle.element.proofs.Steps.{suits-outer}
 use Rattle.element.proofs.Passed.{span-opens, map-never, headed, inside, inside-le}
-use Rattle.names.specs.Names.{keys, nameAt, slotOf}
-use Rattle.field.specs.Kind.{kindOf}
-use Rattle.field.specs.Judge.{textOf}
-use Rattle.field.specs.Cell.{Said, Cell}
-use Rattle.field.specs.At.{shallowAt}
-use Rattle.message.specs.Fields.{Field}
+use Rattle.names.specs.{Names.nameAt, code.Slots.keys, code.Slots.slotOf}
+use Rattle.field.specs.{Judge.textOf, Cell.Said, Cell.Cell, code.At.shallowAt}
+use Rattle.message.specs.{Fields.Field, code.Notes.unnoted}
 use Rattle.message.specs.Reading.{outerOf, saidOf, cellsOf, commandSaid}
-use Rattle.message.specs.Notes.{unnoted}
-use Rattle.message.specs.Cells.{cellsAt, placesOf, numbered, commandAt}
+use Rattle.message.specs.code.Cells.{cellsAt, placesOf, numbered, commandAt}
 use Rattle.message.proofs.Known.{isKnown, areKnown, known-slot, known-key}
 use Rattle.message.proofs.Stands.{Agree, agree-cell, stands}
 
@@ -39,7 +32,7 @@ module _ (s places : List ℕ) (fs : Fields) (h : Agrees s places fs) where
   same-cells (f ∷ l) t =
       let k = both-left (isKnown f) (areKnown l) t in
       ap₂ (λ (c : Cell) (cs : List Cell). c ∷ cs)
-      (rw (known-key f k) at (agree-cell (h (slotOf (f .key)) (known-slot f k)) (kindOf (f .kind))))
+      (rw (known-key f k) at (agree-cell (h (slotOf (f .key)) (known-slot f k)) (f .kind)))
       (same-cells l (both-right (isKnown f) (areKnown l) t))
 
   -- the command's number, by its place and by what is said of it
@@ -69,7 +62,7 @@ payload-agrees s (array b l ts) P = let z : _≡_ {A = ℕ} 0 1 = cc (P .lawful 
 payload-agrees s (map b l ps) P =
     let d : drop 0 s ≡ (b ∷ l ++ bytesOfPairs ps) ++ [] = sym (P .bytes) ∙ sym (append-nil (b ∷ l ++ bytesOfPairs ps)) in
     let g = headed s 8 Role.outer 0 0 b l (bytesOfPairs ps) [] (lit< tt) (lit< tt) d in
-    let o = span-opens s 8 Role.outer 0 0 b (pairsOf ps) l (bytesOfPairs ps ++ []) Map (P .lawful .0) map-never (suits-outer refl) (lit< tt) (lit< tt) g in
+    let o = span-opens s 8 Role.outer 0 0 b (pairCount ps) l (bytesOfPairs ps ++ []) Map (P .lawful .0) map-never (suits-outer refl) (lit< tt) (lit< tt) g in
     let i = inside s 8 Role.outer 0 0 b l (bytesOfPairs ps) [] (lit< tt) (lit< tt) d in
     let j = inside-le s 8 Role.outer 0 0 b l (bytesOfPairs ps) [] (lit< tt) (lit< tt) d in
     rw o

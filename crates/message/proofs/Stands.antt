@@ -12,24 +12,16 @@ use borrow.Author.Tests.{eqb-true, eqb-false}
 use Rattle.octets.specs.Choice.{either}
 use Rattle.octets.proofs.Places.{here, next, after, after-le, part}
 use Rattle.element.specs.declared.Shape.the-variants.{Text}
-use Rattle.element.specs.Form.{Role}
-use Rattle.element.specs.At.{bodyFrom}
-use Rattle.element.specs.Tree.{Tree, Pairs, bytesOf, bytesOfPairs, countOf, countOfPairs, depthOf, depthOfPairs, pairsOf, shapeOfTree, Lawful, LawfulPairs}
-use Rattle.element.specs.Tree.Tree.{leaf, array, map}
-use Rattle.element.specs.Tree.Pairs.{end, pair}
+use Rattle.element.specs.{Form.Role, code.At.bodyFrom, Tree.Tree.leaf, Tree.Tree.array, Tree.Tree.map, Tree.Pairs.end, Tree.Pairs.pair}
+use Rattle.element.specs.Tree.{Tree, Pairs, bytesOf, bytesOfPairs, countOf, countOfPairs, depthOf, depthOfPairs, pairCount, shapeOfTree, Lawful, LawfulPairs}
 use Rattle.element.specs.Meaning.{Element, keyOf, meaningOf, meaningOfPairs}
-use Rattle.element.proofs.Steps.{suits-value, suits-key}
-use Rattle.element.proofs.Passed.{pass-tree}
-use Rattle.names.specs.Names.{keys, sameBytes, nameAt, slotOf}
+use Rattle.element.proofs.{Steps.suits-value, Steps.suits-key, Passed.pass-tree}
+use Rattle.names.specs.{Names.sameBytes, Names.nameAt, code.Slots.keys, code.Slots.slotOf}
 use Rattle.names.proofs.Places.{slot-is}
-use Rattle.field.specs.Kind.{Kind}
-use Rattle.field.specs.Judge.{textOf}
-use Rattle.field.specs.Cell.{Said, cellOf}
-use Rattle.field.specs.At.{shallowAt, cellAt}
-use Rattle.field.proofs.Standing.{leaf-shallow, array-shallow, map-shallow}
-use Rattle.field.proofs.Trees.{cell-tree}
+use Rattle.field.specs.{Kind.Kind, Judge.textOf, Cell.Said, Cell.cellOf, code.At.shallowAt, code.At.cellAt}
+use Rattle.field.proofs.{Standing.leaf-shallow, Standing.array-shallow, Standing.map-shallow, Trees.cell-tree}
 use Rattle.message.specs.Reading.{again, saidFrom}
-use Rattle.message.specs.Notes.{keyAt, noteOf, noted, notesOf}
+use Rattle.message.specs.code.Notes.{keyAt, noteOf, noted, notesOf}
 
 -- a place says what is said: to every kind, and as a text
 pub data Agree (s : List ℕ) : ℕ → Said → Type 0 where
@@ -97,8 +89,8 @@ module _ (s : List ℕ) (u : List ℕ) (q : ℕ) (e : Element) (g : 2 ≤ q) (f 
 -- the pairs of the outer map, from `at` on
 pub stands : (ps : Pairs) (s : List ℕ) (at count : ℕ) (t : List ℕ) → LawfulPairs ps → depthOfPairs ps ≤ 7 → count + countOfPairs ps ≤ 1024 → 1 ≤ at → at ≤ length s
     → drop at s ≡ bytesOfPairs ps ++ t → (a : List ℕ) → length a ≡ 64 → (x : ℕ → Said) → ((i : ℕ) → i < 49 → Agree s (getD a i 0) (x i))
-    → (i : ℕ) → i < 49 → Agree s (getD (notesOf s (pairsOf ps) at count a) i 0) (saidFrom (nameAt keys i) (x i) (meaningOfPairs ps))
-unfolding notesOf saidFrom bytesOf countOf depthOf Lawful pairsOf meaningOf
+    → (i : ℕ) → i < 49 → Agree s (getD (notesOf s (pairCount ps) at count a) i 0) (saidFrom (nameAt keys i) (x i) (meaningOfPairs ps))
+unfolding notesOf saidFrom bytesOf countOf depthOf Lawful pairCount meaningOf
 stands end s at count t L D C m b e a n x h i l = h i l
 stands (pair k v ps) s at count t L D C m b e a n x h i l =
     let g = e ∙ append-assoc (bytesOf k ++ bytesOf v) (bytesOfPairs ps) t in

@@ -1,5 +1,4 @@
 pub mod Fields
 pub mod Record
 pub mod Reading
-pub mod Notes
-pub mod Cells
+pub mod code

@@ -2,18 +2,13 @@
 -- order never matters, and a key outside the command's list says nothing: these are the command's name, the cells of its fields and the gravest fault.
 use Prim.Native.Nat.{ℕ, zero, suc, _+_, _-_, _*_, max}
 use mathlib.Core.Bool.{Bool, true, false, _&&_, not}
-use mathlib.Core.List.{List, [], _∷_}
-use mathlib.Core.Option.{Option, none}
+use mathlib.Core.{List.List, List.[], List._∷_, Option.Option, Option.none}
 use Rattle.octets.specs.Choice.{either}
-use Rattle.element.specs.Meaning.{Element, Fields}
+use Rattle.element.specs.{Meaning.Element, Meaning.Fields, Meaning.Fields.no-field, Meaning.Fields.field}
 use Rattle.element.specs.Meaning.Element.{null, truth, whole, single, double, text, octets, typed, list, table}
-use Rattle.element.specs.Meaning.Fields.{no-field, field}
 use Rattle.names.specs.Names.{bytes, sameBytes}
-use Rattle.field.specs.Kind.{kindOf}
-use Rattle.field.specs.Judge.{textOf}
-use Rattle.field.specs.Cell.{Said, Cell, cellOf}
-use Rattle.message.specs.Fields.{Field}
-use Rattle.message.specs.Record.{markIn}
+use Rattle.field.specs.{Judge.textOf, Cell.Said, Cell.Cell, Cell.cellOf}
+use Rattle.message.specs.{Fields.Field, Record.markIn}
 
 -- the pairs of an outer map
 abbrev pub outerOf : Element → Fields
@@ -51,15 +46,15 @@ commandSaid Said.twice = none
 -- what each field of a list is worth
 unfoldable pub cellsOf : List Field → (List ℕ → Said) → List Cell
 cellsOf [] said = []
-cellsOf (f ∷ l) said = cellOf (kindOf (f .kind)) (said (f .key)) ∷ cellsOf l said
+cellsOf (f ∷ l) said = cellOf (f .kind) (said (f .key)) ∷ cellsOf l said
 
 -- a missing field that is not mandatory is no fault
-abbrev pub faultOf : Bool → Cell → ℕ
-faultOf must (Cell.good v) = 0
-faultOf must Cell.bad = 1
-faultOf must Cell.double = 3
-faultOf true Cell.missing = 2
-faultOf false Cell.missing = 0
+abbrev pub cellFault : Bool → Cell → ℕ
+cellFault must (Cell.good v) = 0
+cellFault must Cell.bad = 1
+cellFault must Cell.double = 3
+cellFault true Cell.missing = 2
+cellFault false Cell.missing = 0
 
 -- a fault with the place of its field: a graver fault is more, and of equal ones the first
 abbrev pub graded : ℕ → ℕ → ℕ
@@ -70,7 +65,7 @@ graded (suc f) i = suc f * 64 + (63 - i)
 unfoldable pub gravest : ℕ → ℕ → List Field → List Cell → ℕ
 gravest g i [] cs = g
 gravest g i (f ∷ l) [] = g
-gravest g i (f ∷ l) (c ∷ cs) = gravest (max g (graded (faultOf (f .must) c) i)) (suc i) l cs
+gravest g i (f ∷ l) (c ∷ cs) = gravest (max g (graded (cellFault (f .must) c) i)) (suc i) l cs
 
 -- the cell of a key in a list; d where it has none
 unfoldable pub lookIn : Cell → List Field → List Cell → List ℕ → Cell
@@ -79,12 +74,12 @@ lookIn d (f ∷ l) [] k = d
 lookIn d (f ∷ l) (c ∷ cs) k = lookIn (either (sameBytes (f .key) k) (λ _. c) (λ _. d)) l cs k
 
 -- the place of a key in a list
-unfoldable pub placeOf : List Field → List ℕ → ℕ
-placeOf [] k = 0
-placeOf (f ∷ l) k = either (sameBytes (f .key) k) (λ _. 0) (λ _. suc (placeOf l k))
+unfoldable pub placeAmong : List Field → List ℕ → ℕ
+placeAmong [] k = 0
+placeAmong (f ∷ l) k = either (sameBytes (f .key) k) (λ _. 0) (λ _. suc (placeAmong l k))
 
 -- responseExp true with dlOpen false is invalid
 abbrev pub crossed : List Field → (List ℕ → Cell) → ℕ
 crossed l look =
     either (markIn (look (bytes "responseExp")) && not (markIn (look (bytes "dlOpen"))))
-    (λ _. graded 1 (placeOf l (bytes "responseExp"))) (λ _. 0)
+    (λ _. graded 1 (placeAmong l (bytes "responseExp"))) (λ _. 0)

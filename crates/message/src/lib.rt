@@ -1,5 +1,5 @@
 // The parts of which the records of messages are made.
-use field::Position;
+pub mod listed;
 
 // A field that may be absent: zero where it is.
 pub struct MaybeWord {
@@ -19,7 +19,7 @@ pub struct MaybeReal {
 
 pub struct MaybePosition {
     pub here: bool,
-    pub value: Position,
+    pub value: field::Position,
 }
 
 pub struct MaybeVersion {

@@ -7,15 +7,12 @@ use native.Mathlib.Omega.{arith}
 use lib.ListN.{length, getD, set, length-set}
 use lib.Seq.{getD-set-same}
 use borrow.Author.Tests.{lt-ltb, le-ltb, eq-eqb}
-use Rattle.meters.specs.declared.Row.{Row}
-use Rattle.meters.specs.declared.Found.{Found}
+use Rattle.meters.specs.declared.{Row.Row, Found.Found}
 use Rattle.meters.specs.declared.Found.the-variants as found
 use Rattle.meters.specs.declared.Credit.the-variants as credit
-use Rattle.meters.specs.Rows.{isFree, isMeter, enrolled, hearOf}
-use Rattle.meters.specs.Table.{Left, blank, meterAt, freeAt, enrolIn, uplinkIn}
-use Rattle.meters.proofs.Truth.{and-false}
-use Rattle.meters.proofs.Scan.{first-put, first-apart}
-use Rattle.meters.proofs.Rules.{enrol-cases, uplink-answer}
+use Rattle.meters.specs.Rows.{isFreeRow, isMeter, enrolled, hearOf}
+use Rattle.meters.specs.Table.{Left, noRow, meterAt, freeAt, enrolIn, uplinkIn}
+use Rattle.meters.proofs.{Truth.and-false, Scan.first-put, Scan.first-apart, Rules.enrol-cases, Rules.uplink-answer}
 
 -- the row i of the rows afterwards is the new meter's, and the only one that changed
 pub record Took (rows after : List Row) (x i : ℕ) (new : Row) : Type 0 where
@@ -24,7 +21,7 @@ pub record Took (rows after : List Row) (x i : ℕ) (new : Row) : Type 0 where
   pub absent : length rows ≤ meterAt rows x
   pub left : after ≡ set rows i new
   pub place : meterAt after x ≡ i
-  pub row : getD after i blank ≡ new
+  pub row : getD after i noRow ≡ new
   pub taken : freeAt after ≡ i → ⊥
 
 not-above : (i x a n m s : ℕ) → m ≤ n → hearOf i (enrolled x a n) m s .answer ≡ credit.Refused 26
@@ -36,7 +33,7 @@ module _ (rows : List Row) (x a n : ℕ) where
   took m l =
       let after = set rows (freeAt rows) (enrolled x a n) in
       let within : freeAt rows < length after = rw (length-set rows (freeAt rows) (enrolled x a n)) l in
-      let row = getD-set-same rows (freeAt rows) (enrolled x a n) blank l in
+      let row = getD-set-same rows (freeAt rows) (enrolled x a n) noRow l in
       record {
         lowest = refl;
         within = l;
@@ -44,7 +41,7 @@ module _ (rows : List Row) (x a n : ℕ) where
         left = refl;
         place = first-put (isMeter x) rows (freeAt rows) (enrolled x a n) (omega arith) l (eq-eqb x x refl);
         row = row;
-        taken = first-apart isFree after (freeAt rows) within (ap isFree row);
+        taken = first-apart isFreeRow after (freeAt rows) within (ap isFreeRow row);
       }
 
   -- an enrolment that answers a row took that row

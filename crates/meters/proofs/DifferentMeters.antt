@@ -2,38 +2,34 @@
 -- holds, and y's answers stay. On every contents, several used rows of one EUI among them. Assumes nothing.
 use Prim.Native.Nat.{ℕ, _<_}
 use mathlib.Core.Path.{_≡_, refl, sym, ap₂, _∙_}
-use mathlib.Core.Bool.{false}
-use mathlib.Core.List.{List}
+use mathlib.Core.{Bool.false, List.List}
 use lib.ListN.{length, getD, set, length-set}
 use lib.Seq.{getD-set-other}
-use Rattle.meters.specs.declared.Row.{Row}
-use Rattle.meters.specs.declared.Found.{Found}
-use Rattle.meters.specs.declared.Credit.{Credit}
-use Rattle.meters.specs.Rows.{isFree, isMark, isMeter, enrolled, withdrawn, hearOf}
-use Rattle.meters.specs.Table.{Left, blank, meterAt, freeAt, findIn, enrolIn, withdrawIn, uplinkIn}
-use Rattle.meters.proofs.Truth.{of-meter, other-eui}
-use Rattle.meters.proofs.Scan.{first-passes, first-set, first-apart}
+use Rattle.meters.specs.declared.{Row.Row, Found.Found, Credit.Credit}
+use Rattle.meters.specs.Rows.{isFreeRow, isMark, isMeter, enrolled, withdrawn, hearOf}
+use Rattle.meters.specs.Table.{Left, noRow, meterAt, freeAt, findIn, enrolIn, withdrawIn, uplinkIn}
+use Rattle.meters.proofs.{Truth.of-meter, Truth.other-eui, Scan.first-passes, Scan.first-set, Scan.first-apart}
 use Rattle.meters.proofs.Rules.{withdraw-cases, enrol-cases, uplink-cases, hear-keeps, find-answer, withdraw-answer, uplink-answer}
 
 -- a call on another meter left y alone: as many rows, y's row where it was, and in it what it held
 pub record Apart (rows after : List Row) (y : ℕ) : Type 0 where
   pub size : length after ≡ length rows
   pub place : meterAt after y ≡ meterAt rows y
-  pub row : getD after (meterAt rows y) blank ≡ getD rows (meterAt rows y) blank
+  pub row : getD after (meterAt rows y) noRow ≡ getD rows (meterAt rows y) noRow
 
 same : (rows : List Row) (y : ℕ) → Apart rows rows y
 same rows y = record { size = refl; place = refl; row = refl }
 
-module _ (rows : List Row) (y i : ℕ) (r : Row) (l : i < length rows) (p : isMeter y (getD rows i blank) ≡ false) (q : isMeter y r ≡ false) where
+module _ (rows : List Row) (y i : ℕ) (r : Row) (l : i < length rows) (p : isMeter y (getD rows i noRow) ≡ false) (q : isMeter y r ≡ false) where
   set-apart : Apart rows (set rows i r) y
   set-apart =
-      record { size = length-set rows i r; place = first-set (isMeter y) rows i r p q; row = getD-set-other rows i (meterAt rows y) r blank (first-apart (isMeter y) rows i l p) }
+      record { size = length-set rows i r; place = first-set (isMeter y) rows i r p q; row = getD-set-other rows i (meterAt rows y) r noRow (first-apart (isMeter y) rows i l p) }
 
 module _ (rows : List Row) (x y : ℕ) (differ : x ≡ y → ⊥) where
   -- x's row is not y's
-  not-y : meterAt rows x < length rows → isMeter y (getD rows (meterAt rows x) blank) ≡ false
+  not-y : meterAt rows x < length rows → isMeter y (getD rows (meterAt rows x) noRow) ≡ false
   not-y l =
-      let r = getD rows (meterAt rows x) blank in
+      let r = getD rows (meterAt rows x) noRow in
       let e : r .eui ≡ x = of-meter (r .used) (r .eui) x (first-passes (isMeter x) rows l) .1 in
       other-eui (r .used) (r .eui) y (λ f. differ (sym e ∙ f))
 
@@ -41,8 +37,8 @@ module _ (rows : List Row) (x y : ℕ) (differ : x ≡ y → ⊥) where
   rows-differ l e = first-apart (isMeter y) rows (meterAt rows x) l (not-y l) (sym e)
 
   -- nor is a free row
-  free-not-y : freeAt rows < length rows → isMeter y (getD rows (freeAt rows) blank) ≡ false
-  free-not-y l = simp (first-passes isFree rows l)
+  free-not-y : freeAt rows < length rows → isMeter y (getD rows (freeAt rows) noRow) ≡ false
+  free-not-y l = simp (first-passes isFreeRow rows l)
 
   pub free-row-differs : freeAt rows < length rows → freeAt rows ≡ meterAt rows y → ⊥
   free-row-differs l e = first-apart (isMeter y) rows (freeAt rows) l (free-not-y l) (sym e)
@@ -51,7 +47,7 @@ module _ (rows : List Row) (x y : ℕ) (differ : x ≡ y → ⊥) where
   withdraw-apart =
       withdraw-cases rows x (λ (l : Left Found). Apart rows (l .rows) y)
       (λ l. same rows y)
-      (λ l. set-apart rows y (meterAt rows x) (withdrawn (getD rows (meterAt rows x) blank)) l (not-y l) refl)
+      (λ l. set-apart rows y (meterAt rows x) (withdrawn (getD rows (meterAt rows x) noRow)) l (not-y l) refl)
 
   pub enrol-apart : (a n : ℕ) → Apart rows (enrolIn rows x a n .rows) y
   enrol-apart a n =
@@ -62,7 +58,7 @@ module _ (rows : List Row) (x y : ℕ) (differ : x ≡ y → ⊥) where
 
   pub uplink-apart : (n s : ℕ) → Apart rows (uplinkIn rows x n s .rows) y
   uplink-apart n s =
-      let r = getD rows (meterAt rows x) blank in
+      let r = getD rows (meterAt rows x) noRow in
       let keeps : isMeter y (hearOf (meterAt rows x) r n s .row) ≡ isMeter y r
       = ap₂ (λ (u w : ℕ). isMark u w y) (hear-keeps (meterAt rows x) r n s (λ (z : Row). z .used) (λ m h. refl)) (hear-keeps (meterAt rows x) r n s (λ (z : Row). z .eui) (λ m h. refl)) in
       uplink-cases rows x n s (λ (l : Left Credit). Apart rows (l .rows) y)

@@ -6,23 +6,17 @@ use mathlib.Core.Bool.{Bool, true, false, _&&_, cond}
 use mathlib.Core.List.{List, [], _∷_, _++_}
 use native.Mathlib.Nat.{mod-lt, one-mul, div-eq-of-lt, add-zero}
 use native.Mathlib.Omega.{arith}
-use lib.Dec.{eqb, ltb, lit<}
-use lib.ListN.{length, getD, length-append}
+use lib.{Dec.eqb, Dec.ltb, Dec.lit<, ListN.length, ListN.getD, ListN.length-append, Count.ones-le}
 use lib.Bits.{bitOr, or-shr, or-mod, or-zero-r, shifted-even}
-use lib.Count.{ones-le}
 use lib.Pow.{pow-pos, pow-add, pow-lt, shl-shr}
 use borrow.Author.Tests.{lt-ltb, le-ltb, eq-eqb, ne-eqb, ltb-true, ltb-false, eqb-true, eqb-false}
-use Rattle.meters.specs.Stations.{below, passing, hears, stations, hearers, nobody, alone, joined}
-use Rattle.meters.specs.declared.Row.{Row}
-use Rattle.meters.specs.declared.Heard.{Heard}
-use Rattle.meters.specs.declared.Credit.{Credit}
-use Rattle.meters.specs.declared.Credit.the-variants.{Refused}
-use Rattle.meters.specs.Rows.{hearOf}
-use Rattle.meters.specs.Table.{Left, blank, meterAt, uplinkIn}
-use Rattle.meters.specs.Answers.{creditRefusalOf, hearersOf}
-use Rattle.meters.specs.Columns.{Columns, rowsOf, columnsOf, even, toldCredit, uplinkOn}
-use Rattle.meters.proofs.Rules.{uplink-cases, hear-cases}
-use Rattle.meters.proofs.Stations.{passing-append, heard-below, or-joined}
+use Rattle.meters.specs.Stations.{numbersTo, passing, hears, stations, hearers, nobody, alone, withHearer}
+use Rattle.meters.specs.declared.{Row.Row, Heard.Heard}
+use Rattle.meters.specs.declared.Credit.{Credit, the-variants.Refused}
+use Rattle.meters.specs.{Rows.hearOf, Answers.creditRefusalOf, Answers.hearersOf}
+use Rattle.meters.specs.Table.{Left, noRow, meterAt, uplinkIn}
+use Rattle.meters.specs.Columns.{Columns, tableRows, columnsOf, even, toldCredit, uplinkOn}
+use Rattle.meters.proofs.{Rules.uplink-cases, Rules.hear-cases, Stations.passing-append, Stations.heard-below, Stations.or-joined}
 
 -- how often a number stands in a list
 abbrev pub times : ℕ → List ℕ → ℕ
@@ -55,12 +49,12 @@ module _ (t : ℕ → Bool) where
       by true = refl
       by false = refl
 
-  once : (s n : ℕ) → times s (passing t (below n)) ≡ cond (ltb s n && t s) 1 0
-  unfolding below passing
+  once : (s n : ℕ) → times s (passing t (numbersTo n)) ≡ cond (ltb s n && t s) 1 0
+  unfolding numbersTo passing
   once s zero = simp (le-ltb s 0 (omega arith))
   once s (suc n) =
-      ap (times s) (passing-append t (below n) (n ∷ []))
-      ∙ times-append s (passing t (below n)) (passing t (n ∷ []))
+      ap (times s) (passing-append t (numbersTo n) (n ∷ []))
+      ∙ times-append s (passing t (numbersTo n)) (passing t (n ∷ []))
       ∙ ap₂ _+_ (once s n) (last-one s n)
       ∙ by (ltb s n) (eqb n s) refl refl
     where
@@ -127,7 +121,7 @@ or-bits (suc zero) true l = refl
 or-bits (suc (suc d)) true l = absurd (omega arith)
 or-bits d false l = ap (λ (k : ℕ). eqb k 1) (or-zero-r d)
 
-pub joined-hears : (h s t : ℕ) → hears (joined h s) t ≡ cond (eqb t s) true (hears h t)
+pub joined-hears : (h s t : ℕ) → hears (withHearer h s) t ≡ cond (eqb t s) true (hears h t)
 unfolding hears
 joined-hears h s t =
     ap (λ (k : ℕ). eqb k 1)
@@ -136,24 +130,24 @@ joined-hears h s t =
 
 -- ---- how many they are
 
-there : (h s : ℕ) → hears h s ≡ true → joined h s ≡ h
-unfolding joined
+there : (h s : ℕ) → hears h s ≡ true → withHearer h s ≡ h
+unfolding withHearer
 there h s e = simp e
 
 -- one more passes: s, and nothing else changes
 one-more : (t t′ : ℕ → Bool) (s n : ℕ) → ((k : ℕ) → t′ k ≡ cond (eqb k s) true (t k)) → t s ≡ false
-    → length (passing t′ (below n)) ≡ length (passing t (below n)) + cond (ltb s n) 1 0
-unfolding below passing
+    → length (passing t′ (numbersTo n)) ≡ length (passing t (numbersTo n)) + cond (ltb s n) 1 0
+unfolding numbersTo passing
 one-more t t′ s zero e f = simp (le-ltb s 0 (omega arith))
 one-more t t′ s (suc n) e f =
-    ap length (passing-append t′ (below n) (n ∷ []))
-    ∙ length-append (passing t′ (below n)) (passing t′ (n ∷ []))
+    ap length (passing-append t′ (numbersTo n) (n ∷ []))
+    ∙ length-append (passing t′ (numbersTo n)) (passing t′ (n ∷ []))
     ∙ ap (λ (k : ℕ). k + length (passing t′ (n ∷ []))) (one-more t t′ s n e f)
     ∙ by (ltb s n) (eqb n s) refl refl
-    ∙ ap (λ (k : ℕ). k + cond (ltb s (suc n)) 1 0) (sym (ap length (passing-append t (below n) (n ∷ [])) ∙ length-append (passing t (below n)) (passing t (n ∷ []))))
+    ∙ ap (λ (k : ℕ). k + cond (ltb s (suc n)) 1 0) (sym (ap length (passing-append t (numbersTo n) (n ∷ [])) ∙ length-append (passing t (numbersTo n)) (passing t (n ∷ []))))
   where
     by : (b d : Bool) → ltb s n ≡ b → eqb n s ≡ d
-        → (length (passing t (below n)) + cond (ltb s n) 1 0) + length (passing t′ (n ∷ [])) ≡ (length (passing t (below n)) + length (passing t (n ∷ []))) + cond (ltb s (suc n)) 1 0
+        → (length (passing t (numbersTo n)) + cond (ltb s n) 1 0) + length (passing t′ (n ∷ [])) ≡ (length (passing t (numbersTo n)) + length (passing t (n ∷ []))) + cond (ltb s (suc n)) 1 0
     by true d p q =
         let l : s < n = ltb-true s n p in
         simp (lt-ltb s n l, lt-ltb s (suc n) (omega arith), e n, ne-eqb n s (λ g. omega arith)) (omega arith)
@@ -165,16 +159,16 @@ one-more t t′ s (suc n) e f =
         let m : n ≡ s → ⊥ = eqb-false n s q in
         simp (le-ltb s n g, le-ltb s (suc n) (omega arith), e n, ne-eqb n s m) (omega arith)
 
-added : (h s : ℕ) → s < 64 → hears h s ≡ false → hearers (joined h s) ≡ suc (hearers h)
+added : (h s : ℕ) → s < 64 → hears h s ≡ false → hearers (withHearer h s) ≡ suc (hearers h)
 unfolding hearers stations
 added h s l e =
-    one-more (hears h) (hears (joined h s)) s 64 (joined-hears h s) e
-    ∙ ap (λ (b : Bool). length (passing (hears h) (below 64)) + cond b 1 0) (lt-ltb s 64 l) ∙ omega arith
+    one-more (hears h) (hears (withHearer h s)) s 64 (joined-hears h s) e
+    ∙ ap (λ (b : Bool). length (passing (hears h) (numbersTo 64)) + cond b 1 0) (lt-ltb s 64 l) ∙ omega arith
 
-pub joined-count : (h s : ℕ) → s < 64 → hearers (joined h s) ≡ cond (hears h s) (hearers h) (suc (hearers h))
+pub joined-count : (h s : ℕ) → s < 64 → hearers (withHearer h s) ≡ cond (hears h s) (hearers h) (suc (hearers h))
 joined-count h s l = by (hears h s) refl
   where
-    by : (b : Bool) → hears h s ≡ b → hearers (joined h s) ≡ cond b (hearers h) (suc (hearers h))
+    by : (b : Bool) → hears h s ≡ b → hearers (withHearer h s) ≡ cond b (hearers h) (suc (hearers h))
     by true e = ap hearers (there h s e)
     by false e = added h s l e
 
@@ -191,12 +185,12 @@ unfolding uplinkOn
 answer-at-most-64 c x n s = by (even c)
   where
     packet : (i : ℕ) (r : Row) → hearersOf (hearOf i r n s .answer) ≤ 64
-    packet i r = hear-cases i r n s (λ (h : Heard). hearersOf (h .answer) ≤ 64) (at-most-64 (alone s)) (at-most-64 (joined (r .heard) s)) (omega arith)
+    packet i r = hear-cases i r n s (λ (h : Heard). hearersOf (h .answer) ≤ 64) (at-most-64 (alone s)) (at-most-64 (withHearer (r .heard) s)) (omega arith)
 
     call : (rows : List Row) → hearersOf (uplinkIn rows x n s .answer) ≤ 64
     call rows =
-        uplink-cases rows x n s (λ (l : Left Credit). hearersOf (l .answer) ≤ 64) (λ l. omega arith) (λ l m. omega arith) (λ l m. packet (meterAt rows x) (getD rows (meterAt rows x) blank))
+        uplink-cases rows x n s (λ (l : Left Credit). hearersOf (l .answer) ≤ 64) (λ l. omega arith) (λ l m. omega arith) (λ l m. packet (meterAt rows x) (getD rows (meterAt rows x) noRow))
 
-    by : (b : Bool) → cond b (toldCredit (uplinkIn (rowsOf c) x n s .answer) (columnsOf (uplinkIn (rowsOf c) x n s .rows))) (toldCredit (Refused 24) c) .hearers ≤ 64
-    by true = call (rowsOf c)
+    by : (b : Bool) → cond b (toldCredit (uplinkIn (tableRows c) x n s .answer) (columnsOf (uplinkIn (tableRows c) x n s .rows))) (toldCredit (Refused 24) c) .hearers ≤ 64
+    by true = call (tableRows c)
     by false = omega arith

@@ -4,20 +4,16 @@ use mathlib.Core.Path.{_≡_, refl, sym, ap, ap₂, _∙_}
 use mathlib.Core.Bool.{Bool, true, false, not, _&&_}
 use mathlib.Core.List.{List, []}
 use native.Mathlib.Omega.{arith}
-use lib.Dec.{eqb}
-use lib.ListN.{length, getD, set}
-use lib.Bits.{bitOr}
-use lib.Count.{ones}
-use lib.Seq.{set-getD}
+use lib.{Dec.eqb, ListN.length, ListN.getD, ListN.set, Bits.bitOr, Count.ones, Seq.set-getD}
 use borrow.Author.Tests.{lt-ltb, le-ltb, eq-eqb, not-true, not-false}
-use Rattle.meters.specs.declared.Row.{Row}
-use Rattle.meters.specs.declared.Heard.{Heard}
+use Rattle.meters.specs.declared.{Row.Row, Heard.Heard}
 use Rattle.meters.specs.declared.Found.the-variants as found
 use Rattle.meters.specs.declared.Credit.the-variants as credit
-use Rattle.meters.specs.Stations.{joined}
-use Rattle.meters.specs.Rows.{isFree, isMark, isMeter, enrolled, withdrawn, heardAs, hearOf}
-use Rattle.meters.specs.Table.{Left, left, blank, meterAt, findIn, enrolIn, withdrawIn, uplinkIn}
-use Rattle.meters.specs.Columns.{Columns, columns, rowAt, rowsOf, columnsOf, meterPlace, freePlace, putRow, Even, even, Done, toldPlace, toldCredit, onRows, findOn, enrolOn, withdrawOn, uplinkOn}
+use Rattle.meters.specs.Stations.{withHearer}
+use Rattle.meters.specs.Rows.{isFreeRow, isMark, isMeter, enrolled, withdrawn, heardAs, hearOf}
+use Rattle.meters.specs.Table.{Left, left, noRow, meterAt, findIn, enrolIn, withdrawIn, uplinkIn}
+use Rattle.meters.specs.Columns.{Columns, columns, rowAt, tableRows, columnsOf, even, Done, toldPlace, toldCredit, onRows, findOn, enrolOn, withdrawOn, uplinkOn}
+use Rattle.meters.specs.code.Store.{meterPlace, freeRow, putRow, Even}
 use Rattle.meters.proofs.Stations.{ones-hearers, shifted, alone-hearers, or-joined, joined-lt}
 use Rattle.meters.proofs.Rules.{find-none, find-at, withdraw-none, withdraw-at, enrol-there, enrol-full, enrol-at, uplink-over, uplink-none, uplink-at, hear-keeps}
 use Rattle.meters.proofs.Held.{meter-of, free-of, even-true, true-even, length-rows, row-at, columns-are, columns-back, columns-set, scan-is, scan-none}
@@ -34,13 +30,13 @@ module _ (u : List ℕ) (i : ℕ) where
     place-none g f = scan-none (columns u e [] [] []) (isMeter x) i b (omega arith)
 
   module _ (b : (k : ℕ) → k < i → eqb (getD u k 0) 0 ≡ false) where
-    pub free-here : i < length u → getD u i 0 ≡ 0 → i ≡ freePlace u
-    unfolding freePlace
-    free-here g p = scan-is (columns u [] [] [] []) isFree i b g (eq-eqb _ _ p)
+    pub free-here : i < length u → getD u i 0 ≡ 0 → i ≡ freeRow u
+    unfolding freeRow
+    free-here g p = scan-is (columns u [] [] [] []) isFreeRow i b g (eq-eqb _ _ p)
 
-    pub free-none : i ≤ length u → length u ≤ i → i ≡ freePlace u
-    unfolding freePlace
-    free-none g f = scan-none (columns u [] [] [] []) isFree i b (omega arith)
+    pub free-none : i ≤ length u → length u ≤ i → i ≡ freeRow u
+    unfolding freeRow
+    free-none g f = scan-none (columns u [] [] [] []) isFreeRow i b (omega arith)
 
 -- nothing passed yet, and one more row that does not pass
 pub missed : (r b : Bool) → r ≡ b → r ≡ false → b ≡ false
@@ -57,7 +53,7 @@ module _ (i : ℕ) (r : Row) (n s : ℕ) (g : s < 64) where
   pub hear-copy : r .heard < 2 ^ 64 → n ≤ r .last → eqb n (r .last) && not (eqb (r .heard) 0) ≡ true
       → record { row = heardAs r (r .last) (bitOr (r .heard) ((1 * 2 ^ s) % 2 ^ 64)); answer = credit.Copy (ones (bitOr (r .heard) ((1 * 2 ^ s) % 2 ^ 64))) i } ≡ hearOf i r n s
   unfolding hearOf
-  hear-copy f h e = simp (le-ltb (r .last) n h, e, shifted s g, or-joined (r .heard) s, ones-hearers (joined (r .heard) s) (joined-lt (r .heard) s f g))
+  hear-copy f h e = simp (le-ltb (r .last) n h, e, shifted s g, or-joined (r .heard) s, ones-hearers (withHearer (r .heard) s) (joined-lt (r .heard) s f g))
 
   pub hear-stale : n ≤ r .last → eqb n (r .last) && not (eqb (r .heard) 0) ≡ false → record { row = r; answer = credit.Refused 26 } ≡ hearOf i r n s
   unfolding hearOf
@@ -100,7 +96,7 @@ pub ruleset tests = (is-table, same-euis, find-24, enrol-24, withdraw-24, uplink
 
 -- ---- the calls on a table: what a call on its rows leaves is what the columns hold
 on-even : {A : Type 0} (told : A → Columns → Done A) (unequal : A) (call : List Row → Left A) (c : Columns) → Even c
-    → (a : A) (rows : List Row) (d : Columns) → call (rowsOf c) ≡ left a rows → columnsOf rows ≡ d → told a d ≡ onRows told unequal call c
+    → (a : A) (rows : List Row) (d : Columns) → call (tableRows c) ≡ left a rows → columnsOf rows ≡ d → told a d ≡ onRows told unequal call c
 on-even told unequal call c t a rows d e f = simp (even-true c t, e, f)
 
 module _ (u e s l h : List ℕ) (t : Even (columns u e s l h)) where
@@ -109,60 +105,60 @@ module _ (u e s l h : List ℕ) (t : Even (columns u e s l h)) where
 
   pub uplink-25 : (x n k : ℕ) → 63 < k → toldCredit (credit.Refused 25) c ≡ uplinkOn c x n k
   unfolding uplinkOn
-  uplink-25 x n k g = on-even toldCredit (credit.Refused 24) (λ (rows : List Row). uplinkIn rows x n k) c t _ _ _ (uplink-over (rowsOf c) x n k g) (columns-back c t)
+  uplink-25 x n k g = on-even toldCredit (credit.Refused 24) (λ (rows : List Row). uplinkIn rows x n k) c t _ _ _ (uplink-over (tableRows c) x n k g) (columns-back c t)
 
   -- the meter has no row
   module _ (i x : ℕ) (o : i ≡ meterPlace u e x) (f : length u ≤ i) where
-    none : length (rowsOf c) ≤ meterAt (rowsOf c) x
+    none : length (tableRows c) ≤ meterAt (tableRows c) x
     none = rw (length-rows c, ← meter-of c x, ← o) f
 
     pub find-21 : toldPlace (found.Refused 21) c ≡ findOn c x
     unfolding findOn
-    find-21 = on-even toldPlace (found.Refused 24) (λ (rows : List Row). findIn rows x) c t _ _ _ (find-none (rowsOf c) x none) (columns-back c t)
+    find-21 = on-even toldPlace (found.Refused 24) (λ (rows : List Row). findIn rows x) c t _ _ _ (find-none (tableRows c) x none) (columns-back c t)
 
     pub withdraw-21 : toldPlace (found.Refused 21) c ≡ withdrawOn c x
     unfolding withdrawOn
-    withdraw-21 = on-even toldPlace (found.Refused 24) (λ (rows : List Row). withdrawIn rows x) c t _ _ _ (withdraw-none (rowsOf c) x none) (columns-back c t)
+    withdraw-21 = on-even toldPlace (found.Refused 24) (λ (rows : List Row). withdrawIn rows x) c t _ _ _ (withdraw-none (tableRows c) x none) (columns-back c t)
 
     pub uplink-21 : (n k : ℕ) → k ≤ 63 → toldCredit (credit.Refused 21) c ≡ uplinkOn c x n k
     unfolding uplinkOn
-    uplink-21 n k g = on-even toldCredit (credit.Refused 24) (λ (rows : List Row). uplinkIn rows x n k) c t _ _ _ (uplink-none (rowsOf c) x n k g none) (columns-back c t)
+    uplink-21 n k g = on-even toldCredit (credit.Refused 24) (λ (rows : List Row). uplinkIn rows x n k) c t _ _ _ (uplink-none (tableRows c) x n k g none) (columns-back c t)
 
-    module _ (a n j : ℕ) (o′ : j ≡ freePlace u) where
+    module _ (a n j : ℕ) (o′ : j ≡ freeRow u) where
       pub enrol-23 : length u ≤ j → toldPlace (found.Refused 23) c ≡ enrolOn c x a n
       unfolding enrolOn
-      enrol-23 g = on-even toldPlace (found.Refused 24) (λ (rows : List Row). enrolIn rows x a n) c t _ _ _ (enrol-full (rowsOf c) x a n none (rw (length-rows c, ← free-of c, ← o′) g)) (columns-back c t)
+      enrol-23 g = on-even toldPlace (found.Refused 24) (λ (rows : List Row). enrolIn rows x a n) c t _ _ _ (enrol-full (tableRows c) x a n none (rw (length-rows c, ← free-of c, ← o′) g)) (columns-back c t)
 
       pub enrol-done : (d : Columns) → j < length u → d ≡ putRow c j (enrolled x a n) → toldPlace (found.At j) d ≡ enrolOn c x a n
       unfolding enrolOn
       enrol-done d g y =
-          on-even toldPlace (found.Refused 24) (λ (rows : List Row). enrolIn rows x a n) c t (found.At j) (set (rowsOf c) j (enrolled x a n)) d
-          (enrol-at (rowsOf c) x a n none (rw (length-rows c, ← free-of c, ← o′) g) ∙ ap (λ (k : ℕ). left (found.At k) (set (rowsOf c) k (enrolled x a n))) (sym (o′ ∙ free-of c)))
+          on-even toldPlace (found.Refused 24) (λ (rows : List Row). enrolIn rows x a n) c t (found.At j) (set (tableRows c) j (enrolled x a n)) d
+          (enrol-at (tableRows c) x a n none (rw (length-rows c, ← free-of c, ← o′) g) ∙ ap (λ (k : ℕ). left (found.At k) (set (tableRows c) k (enrolled x a n))) (sym (o′ ∙ free-of c)))
           (columns-set c t j (enrolled x a n) ∙ sym y)
 
   -- the meter has a row
   module _ (i x : ℕ) (o : i ≡ meterPlace u e x) (f : i < length u) where
-    at : i ≡ meterAt (rowsOf c) x
+    at : i ≡ meterAt (tableRows c) x
     at = o ∙ meter-of c x
 
-    there : meterAt (rowsOf c) x < length (rowsOf c)
+    there : meterAt (tableRows c) x < length (tableRows c)
     there = rw (length-rows c, ← at) f
 
     pub find-done : toldPlace (found.At i) c ≡ findOn c x
     unfolding findOn
-    find-done = on-even toldPlace (found.Refused 24) (λ (rows : List Row). findIn rows x) c t _ _ _ (find-at (rowsOf c) x there ∙ ap (λ (k : ℕ). left (found.At k) (rowsOf c)) (sym at)) (columns-back c t)
+    find-done = on-even toldPlace (found.Refused 24) (λ (rows : List Row). findIn rows x) c t _ _ _ (find-at (tableRows c) x there ∙ ap (λ (k : ℕ). left (found.At k) (tableRows c)) (sym at)) (columns-back c t)
 
     pub enrol-22 : (a n : ℕ) → toldPlace (found.Refused 22) c ≡ enrolOn c x a n
     unfolding enrolOn
-    enrol-22 a n = on-even toldPlace (found.Refused 24) (λ (rows : List Row). enrolIn rows x a n) c t _ _ _ (enrol-there (rowsOf c) x a n there) (columns-back c t)
+    enrol-22 a n = on-even toldPlace (found.Refused 24) (λ (rows : List Row). enrolIn rows x a n) c t _ _ _ (enrol-there (tableRows c) x a n there) (columns-back c t)
 
     pub withdraw-done : toldPlace (found.At i) (columns (set u i 0) e s l h) ≡ withdrawOn c x
     unfolding withdrawOn
     withdraw-done =
-        on-even toldPlace (found.Refused 24) (λ (rows : List Row). withdrawIn rows x) c t (found.At i) (set (rowsOf c) i (withdrawn (rowAt c i))) _
-        (withdraw-at (rowsOf c) x there
-        ∙ ap (λ (k : ℕ). left (found.At k) (set (rowsOf c) k (withdrawn (getD (rowsOf c) k blank)))) (sym at)
-        ∙ ap (λ (r : Row). left (found.At i) (set (rowsOf c) i (withdrawn r))) (row-at c i f))
+        on-even toldPlace (found.Refused 24) (λ (rows : List Row). withdrawIn rows x) c t (found.At i) (set (tableRows c) i (withdrawn (rowAt c i))) _
+        (withdraw-at (tableRows c) x there
+        ∙ ap (λ (k : ℕ). left (found.At k) (set (tableRows c) k (withdrawn (getD (tableRows c) k noRow)))) (sym at)
+        ∙ ap (λ (r : Row). left (found.At i) (set (tableRows c) i (withdrawn r))) (row-at c i f))
         (columns-set c t i (withdrawn (rowAt c i)) ∙ columns-are refl (set-getD e i 0) (set-getD s i 0) (set-getD l i 0) (set-getD h i 0))
 
     module _ (n k : ℕ) (q : k ≤ 63) where
@@ -173,10 +169,10 @@ module _ (u e s l h : List ℕ) (t : Even (columns u e s l h)) where
       uplink-by : toldCredit (hearOf i (rowAt c i) n k .answer) (columns u e s (set l i (hearOf i (rowAt c i) n k .row .last)) (set h i (hearOf i (rowAt c i) n k .row .heard))) ≡ uplinkOn c x n k
       unfolding uplinkOn
       uplink-by =
-          on-even toldCredit (credit.Refused 24) (λ (rows : List Row). uplinkIn rows x n k) c t (hearOf i (rowAt c i) n k .answer) (set (rowsOf c) i (hearOf i (rowAt c i) n k .row)) _
-          (uplink-at (rowsOf c) x n k q there
-          ∙ ap (λ (j : ℕ). left (hearOf j (getD (rowsOf c) j blank) n k .answer) (set (rowsOf c) j (hearOf j (getD (rowsOf c) j blank) n k .row))) (sym at)
-          ∙ ap (λ (r : Row). left (hearOf i r n k .answer) (set (rowsOf c) i (hearOf i r n k .row))) (row-at c i f))
+          on-even toldCredit (credit.Refused 24) (λ (rows : List Row). uplinkIn rows x n k) c t (hearOf i (rowAt c i) n k .answer) (set (tableRows c) i (hearOf i (rowAt c i) n k .row)) _
+          (uplink-at (tableRows c) x n k q there
+          ∙ ap (λ (j : ℕ). left (hearOf j (getD (tableRows c) j noRow) n k .answer) (set (tableRows c) j (hearOf j (getD (tableRows c) j noRow) n k .row))) (sym at)
+          ∙ ap (λ (r : Row). left (hearOf i r n k .answer) (set (tableRows c) i (hearOf i r n k .row))) (row-at c i f))
           (columns-set c t i (hearOf i (rowAt c i) n k .row)
           ∙ columns-are (kept u (λ (r : Row). r .used) (λ m b. refl) refl) (kept e (λ (r : Row). r .eui) (λ m b. refl) refl) (kept s (λ (r : Row). r .short) (λ m b. refl) refl) refl refl)
 

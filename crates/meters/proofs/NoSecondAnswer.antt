@@ -2,8 +2,7 @@
 -- Assumes nothing.
 use Prim.Native.Nat.{ℕ}
 use mathlib.Core.Path.{_≡_, sym, ap, _∙_}
-use Rattle.meters.specs.declared.Found.{Found}
-use Rattle.meters.specs.declared.Credit.{Credit}
+use Rattle.meters.specs.declared.{Found.Found, Credit.Credit}
 use Rattle.meters.specs.Columns.{Columns, Done, toldPlace, toldCredit, findOn, enrolOn, withdrawOn, uplinkOn}
 
 module _ (c : Columns) (x : ℕ) where

@@ -1,20 +1,15 @@
 -- The calls on rows, case by case: each case of a definition as an equation. Assumes nothing.
 use Prim.Native.Nat.{ℕ, _≤_, _<_}
-use mathlib.Core.Path.{_≡_, refl}
+use mathlib.Core.{Path._≡_, Path.refl, List.List}
 use mathlib.Core.Bool.{Bool, true, false, not, _&&_, cond}
-use mathlib.Core.List.{List}
-use lib.Dec.{eqb, ltb}
-use lib.ListN.{length, getD, set}
+use lib.{Dec.eqb, Dec.ltb, ListN.length, ListN.getD, ListN.set}
 use borrow.Author.Tests.{lt-ltb, le-ltb, ltb-true, ltb-false}
-use Rattle.meters.specs.declared.Row.{Row}
-use Rattle.meters.specs.declared.Heard.{Heard}
-use Rattle.meters.specs.declared.Found.{Found}
+use Rattle.meters.specs.declared.{Row.Row, Heard.Heard, Found.Found, Credit.Credit}
 use Rattle.meters.specs.declared.Found.the-variants as found
-use Rattle.meters.specs.declared.Credit.{Credit}
 use Rattle.meters.specs.declared.Credit.the-variants as credit
-use Rattle.meters.specs.Stations.{nobody, alone, joined}
+use Rattle.meters.specs.Stations.{nobody, alone, withHearer}
 use Rattle.meters.specs.Rows.{enrolled, withdrawn, heardAs, credited, hearOf}
-use Rattle.meters.specs.Table.{Left, blank, left, meterAt, freeAt, heardIn, findIn, enrolIn, withdrawIn, uplinkIn}
+use Rattle.meters.specs.Table.{Left, noRow, left, meterAt, freeAt, heardIn, findIn, enrolIn, withdrawIn, uplinkIn}
 
 module _ (rows : List Row) (x : ℕ) where
   pub find-none : length rows ≤ meterAt rows x → findIn rows x ≡ left (found.Refused 21) rows
@@ -29,7 +24,7 @@ module _ (rows : List Row) (x : ℕ) where
   unfolding withdrawIn
   withdraw-none h = simp (le-ltb (meterAt rows x) (length rows) h)
 
-  pub withdraw-at : meterAt rows x < length rows → withdrawIn rows x ≡ left (found.At (meterAt rows x)) (set rows (meterAt rows x) (withdrawn (getD rows (meterAt rows x) blank)))
+  pub withdraw-at : meterAt rows x < length rows → withdrawIn rows x ≡ left (found.At (meterAt rows x)) (set rows (meterAt rows x) (withdrawn (getD rows (meterAt rows x) noRow)))
   unfolding withdrawIn
   withdraw-at h = simp (lt-ltb (meterAt rows x) (length rows) h)
 
@@ -62,7 +57,7 @@ module _ (rows : List Row) (x : ℕ) where
 -- ---- what holds in each case holds of the call
 module _ (rows : List Row) (x : ℕ) where
   pub withdraw-cases : (P : Left Found → Type 0) → (length rows ≤ meterAt rows x → P (left (found.Refused 21) rows))
-      → (meterAt rows x < length rows → P (left (found.At (meterAt rows x)) (set rows (meterAt rows x) (withdrawn (getD rows (meterAt rows x) blank))))) → P (withdrawIn rows x)
+      → (meterAt rows x < length rows → P (left (found.At (meterAt rows x)) (set rows (meterAt rows x) (withdrawn (getD rows (meterAt rows x) noRow))))) → P (withdrawIn rows x)
   withdraw-cases P absent there = by (ltb (meterAt rows x) (length rows)) refl
     where
       by : (b : Bool) → ltb (meterAt rows x) (length rows) ≡ b → P (withdrawIn rows x)
@@ -102,19 +97,19 @@ module _ (rows : List Row) (x : ℕ) where
           rw (uplink-at rows x n s l m) (there l m)
 
 -- a packet is new, a copy or stale
-pub hear-cases : (i : ℕ) (r : Row) (n s : ℕ) (P : Heard → Type 0) → P (credited credit.New i (heardAs r n (alone s))) → P (credited credit.Copy i (heardAs r (r .last) (joined (r .heard) s)))
+pub hear-cases : (i : ℕ) (r : Row) (n s : ℕ) (P : Heard → Type 0) → P (credited credit.New i (heardAs r n (alone s))) → P (credited credit.Copy i (heardAs r (r .last) (withHearer (r .heard) s)))
     → P (record { row = r; answer = credit.Refused 26 }) → P (hearOf i r n s)
 unfolding hearOf
 hear-cases i r n s P new copy stale = by (ltb (r .last) n) (eqb n (r .last) && not (eqb (r .heard) nobody))
   where
-    by : (a b : Bool) → P (cond a (credited credit.New i (heardAs r n (alone s))) (cond b (credited credit.Copy i (heardAs r (r .last) (joined (r .heard) s))) (record { row = r; answer = credit.Refused 26 })))
+    by : (a b : Bool) → P (cond a (credited credit.New i (heardAs r n (alone s))) (cond b (credited credit.Copy i (heardAs r (r .last) (withHearer (r .heard) s))) (record { row = r; answer = credit.Refused 26 })))
     by true b = new
     by false true = copy
     by false false = stale
 
 -- it leaves the row's mark, EUI and short address
 pub hear-keeps : (i : ℕ) (r : Row) (n s : ℕ) (g : Row → ℕ) → ((m h : ℕ) → g (heardAs r m h) ≡ g r) → g (hearOf i r n s .row) ≡ g r
-hear-keeps i r n s g kept = hear-cases i r n s (λ (h : Heard). g (h .row) ≡ g r) (kept n (alone s)) (kept (r .last) (joined (r .heard) s)) refl
+hear-keeps i r n s g kept = hear-cases i r n s (λ (h : Heard). g (h .row) ≡ g r) (kept n (alone s)) (kept (r .last) (withHearer (r .heard) s)) refl
 
 -- ---- a call's answer
 module _ (rows : List Row) (x : ℕ) where

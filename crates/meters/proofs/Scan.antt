@@ -8,40 +8,40 @@ use native.Mathlib.Omega.{arith}
 use lib.ListN.{length, getD, set, length-set}
 use lib.Seq.{getD-set-same, getD-set-other}
 use Rattle.meters.specs.declared.Row.{Row}
-use Rattle.meters.specs.Table.{blank, first}
+use Rattle.meters.specs.Table.{noRow, first}
 use Rattle.meters.proofs.Truth.{never}
 
 module _ (t : Row → Bool) where
   -- the scan stopped at i
-  pub first-is : (rows : List Row) (i : ℕ) → ((k : ℕ) → k < i → t (getD rows k blank) ≡ false) → i < length rows → t (getD rows i blank) ≡ true → i ≡ first t rows
+  pub first-is : (rows : List Row) (i : ℕ) → ((k : ℕ) → k < i → t (getD rows k noRow) ≡ false) → i < length rows → t (getD rows i noRow) ≡ true → i ≡ first t rows
   unfolding first
   first-is [] i b l e = absurd (omega arith)
   first-is (r ∷ rows) zero b l e = simp e
   first-is (r ∷ rows) (suc i) b l e = simp (b 0 (zero-lt-suc i)) (ap suc (first-is rows i (λ k h. b (suc k) (omega arith)) (le-of-suc-le-suc l) e))
 
   -- the scan came to the end
-  pub first-none : (rows : List Row) → ((k : ℕ) → k < length rows → t (getD rows k blank) ≡ false) → length rows ≡ first t rows
+  pub first-none : (rows : List Row) → ((k : ℕ) → k < length rows → t (getD rows k noRow) ≡ false) → length rows ≡ first t rows
   unfolding first
   first-none [] b = refl
   first-none (r ∷ rows) b = simp (b 0 (zero-lt-suc (length rows))) (ap suc (first-none rows (λ k h. b (suc k) (omega arith))))
 
-  pub first-passes : (rows : List Row) → first t rows < length rows → t (getD rows (first t rows) blank) ≡ true
+  pub first-passes : (rows : List Row) → first t rows < length rows → t (getD rows (first t rows) noRow) ≡ true
   unfolding first
   first-passes [] l = absurd (omega arith)
   first-passes (r ∷ rows) l = by (t r) refl (first-passes rows) l
     where
-      by : (b : Bool) → t r ≡ b → (first t rows < length rows → t (getD rows (first t rows) blank) ≡ true)
-          → cond b 0 (suc (first t rows)) < suc (length rows) → t (getD (r ∷ rows) (cond b 0 (suc (first t rows))) blank) ≡ true
+      by : (b : Bool) → t r ≡ b → (first t rows < length rows → t (getD rows (first t rows) noRow) ≡ true)
+          → cond b 0 (suc (first t rows)) < suc (length rows) → t (getD (r ∷ rows) (cond b 0 (suc (first t rows))) noRow) ≡ true
       by true e rest g = e
       by false e rest g = rest (le-of-suc-le-suc g)
 
-  pub first-before : (rows : List Row) (k : ℕ) → k < first t rows → t (getD rows k blank) ≡ false
+  pub first-before : (rows : List Row) (k : ℕ) → k < first t rows → t (getD rows k noRow) ≡ false
   unfolding first
   first-before [] k l = absurd (omega arith)
   first-before (r ∷ rows) k l = by (t r) refl (first-before rows) k l
     where
-      by : (b : Bool) → t r ≡ b → ((j : ℕ) → j < first t rows → t (getD rows j blank) ≡ false)
-          → (j : ℕ) → j < cond b 0 (suc (first t rows)) → t (getD (r ∷ rows) j blank) ≡ false
+      by : (b : Bool) → t r ≡ b → ((j : ℕ) → j < first t rows → t (getD rows j noRow) ≡ false)
+          → (j : ℕ) → j < cond b 0 (suc (first t rows)) → t (getD (r ∷ rows) j noRow) ≡ false
       by true e rest j g = absurd (omega arith)
       by false e rest zero g = e
       by false e rest (suc j) g = rest j (le-of-suc-le-suc g)
@@ -62,7 +62,7 @@ module _ (t : Row → Bool) where
   first-same f g e (a ∷ l) = ap (λ (b : Bool). cond b 0 (suc (first t (map f l)))) (e a) ∙ ap (λ (k : ℕ). cond (t (g a)) 0 (suc k)) (first-same f g e l)
 
   -- a row that does not pass becomes another that does not
-  pub first-set : (rows : List Row) (i : ℕ) (r : Row) → t (getD rows i blank) ≡ false → t r ≡ false → first t (set rows i r) ≡ first t rows
+  pub first-set : (rows : List Row) (i : ℕ) (r : Row) → t (getD rows i noRow) ≡ false → t r ≡ false → first t (set rows i r) ≡ first t rows
   unfolding first
   first-set [] i r p q = refl
   first-set (y ∷ rows) zero r p q = simp (p, q)
@@ -75,10 +75,10 @@ module _ (t : Row → Bool) where
       (first-is (set rows i r) i
       (λ k h.
       let d : k ≡ i → ⊥ = λ f. omega arith in
-      ap t (getD-set-other rows i k r blank d) ∙ first-before rows k (omega arith))
+      ap t (getD-set-other rows i k r noRow d) ∙ first-before rows k (omega arith))
       (rw (length-set rows i r) l)
-      (ap t (getD-set-same rows i r blank l) ∙ e))
+      (ap t (getD-set-same rows i r noRow l) ∙ e))
 
   -- the row at the place found is not one that does not pass
-  pub first-apart : (rows : List Row) (i : ℕ) → i < length rows → t (getD rows i blank) ≡ false → first t rows ≡ i → ⊥
-  first-apart rows i l p e = never (sym p ∙ ap (λ (k : ℕ). t (getD rows k blank)) (sym e) ∙ first-passes rows (rw e l))
+  pub first-apart : (rows : List Row) (i : ℕ) → i < length rows → t (getD rows i noRow) ≡ false → first t rows ≡ i → ⊥
+  first-apart rows i l p e = never (sym p ∙ ap (λ (k : ℕ). t (getD rows k noRow)) (sym e) ∙ first-passes rows (rw e l))

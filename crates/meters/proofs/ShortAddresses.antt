@@ -7,18 +7,14 @@ use mathlib.Core.Bool.{Bool, true, false, not, _&&_, cond}
 use mathlib.Core.List.{List, [], _∷_, map, map-id}
 use lib.Dec.{eqb, ltb}
 use lib.ListN.{length, getD, set, length-map, List·getD-map}
-use Rattle.meters.specs.declared.Row.{Row}
-use Rattle.meters.specs.declared.Heard.{Heard}
-use Rattle.meters.specs.declared.Found.{Found}
+use Rattle.meters.specs.declared.{Row.Row, Heard.Heard, Found.Found, Credit.Credit}
 use Rattle.meters.specs.declared.Found.the-variants as found
-use Rattle.meters.specs.declared.Credit.{Credit}
 use Rattle.meters.specs.declared.Credit.the-variants as credit
-use Rattle.meters.specs.Stations.{below, hearers, alone, joined}
-use Rattle.meters.specs.Rows.{isFree, isMeter, enrolled, withdrawn, heardAs, hearOf}
-use Rattle.meters.specs.Table.{Left, blank, left, first, changed, meterAt, freeAt, findIn, enrolIn, withdrawIn, uplinkIn}
-use Rattle.meters.specs.Columns.{Columns, columns, rowAt, rowsOf, columnsOf, sameLengths, even, Done, toldPlace, toldCredit, onRows, findOn, enrolOn, withdrawOn, uplinkOn}
-use Rattle.meters.proofs.Scan.{first-same}
-use Rattle.meters.proofs.Held.{map-set, columns-are}
+use Rattle.meters.specs.Stations.{numbersTo, hearers, alone, withHearer}
+use Rattle.meters.specs.Rows.{isFreeRow, isMeter, enrolled, withdrawn, heardAs, hearOf}
+use Rattle.meters.specs.Table.{Left, noRow, left, first, changed, meterAt, freeAt, findIn, enrolIn, withdrawIn, uplinkIn}
+use Rattle.meters.specs.Columns.{Columns, columns, rowAt, tableRows, columnsOf, sameLengths, even, Done, toldPlace, toldCredit, onRows, findOn, enrolOn, withdrawOn, uplinkOn}
+use Rattle.meters.proofs.{Scan.first-same, Held.map-set, Held.columns-are}
 
 -- the same with every short address 0: a row, columns, what a call leaves
 abbrev pub bareRow : Row → Row
@@ -44,7 +40,7 @@ bare-hear i r n s = by (ltb (r .last) n) (eqb n (r .last) && not (eqb (r .heard)
     packet : Bool → Bool → Row → Heard
     packet p q y =
         cond p (record { row = heardAs y n (alone s); answer = credit.New (hearers (alone s)) i })
-        (cond q (record { row = heardAs y (r .last) (joined (r .heard) s); answer = credit.Copy (hearers (joined (r .heard) s)) i }) (record { row = y; answer = credit.Refused 26 }))
+        (cond q (record { row = heardAs y (r .last) (withHearer (r .heard) s); answer = credit.Copy (hearers (withHearer (r .heard) s)) i }) (record { row = y; answer = credit.Refused 26 }))
 
     by : (p q : Bool) → packet p q (bareRow r) ≡ record { row = bareRow (packet p q r .row); answer = packet p q r .answer }
     by true q = refl
@@ -63,8 +59,8 @@ module _ (rows : List Row) (x : ℕ) where
   meter-bare : meterAt (map bareRow rows) x ≡ meterAt rows x
   meter-bare = first-bare (isMeter x) (λ r. refl) rows
 
-  row-bare : getD (map bareRow rows) (meterAt rows x) blank ≡ bareRow (getD rows (meterAt rows x) blank)
-  row-bare = List·getD-map bareRow rows (meterAt rows x) blank
+  row-bare : getD (map bareRow rows) (meterAt rows x) noRow ≡ bareRow (getD rows (meterAt rows x) noRow)
+  row-bare = List·getD-map bareRow rows (meterAt rows x) noRow
 
   bare-find : findIn (map bareRow rows) x ≡ bareLeft (findIn rows x)
   unfolding findIn
@@ -73,14 +69,14 @@ module _ (rows : List Row) (x : ℕ) where
   bare-withdraw : withdrawIn (map bareRow rows) x ≡ bareLeft (withdrawIn rows x)
   unfolding withdrawIn
   bare-withdraw =
-      ap (λ (i : ℕ). changed (map bareRow rows) i (withdrawn (getD (map bareRow rows) i blank)) (found.At i) (found.Refused 21)) meter-bare
+      ap (λ (i : ℕ). changed (map bareRow rows) i (withdrawn (getD (map bareRow rows) i noRow)) (found.At i) (found.Refused 21)) meter-bare
       ∙ ap (λ (r : Row). changed (map bareRow rows) (meterAt rows x) (withdrawn r) (found.At (meterAt rows x)) (found.Refused 21)) row-bare
-      ∙ bare-changed rows (meterAt rows x) (withdrawn (getD rows (meterAt rows x) blank)) (found.At (meterAt rows x)) (found.Refused 21)
+      ∙ bare-changed rows (meterAt rows x) (withdrawn (getD rows (meterAt rows x) noRow)) (found.At (meterAt rows x)) (found.Refused 21)
 
   bare-enrol : (a n : ℕ) → enrolIn (map bareRow rows) x 0 n ≡ bareLeft (enrolIn rows x a n)
   unfolding enrolIn
   bare-enrol a n =
-      ap₂ (call (map bareRow rows) 0 (length (map bareRow rows))) meter-bare (first-bare isFree (λ r. refl) rows)
+      ap₂ (call (map bareRow rows) 0 (length (map bareRow rows))) meter-bare (first-bare isFreeRow (λ r. refl) rows)
       ∙ ap (λ (k : ℕ). call (map bareRow rows) 0 k (meterAt rows x) (freeAt rows)) (length-map rows bareRow)
       ∙ by (ltb (meterAt rows x) (length rows))
     where
@@ -95,7 +91,7 @@ module _ (rows : List Row) (x : ℕ) where
   bare-uplink : (n s : ℕ) → uplinkIn (map bareRow rows) x n s ≡ bareLeft (uplinkIn rows x n s)
   unfolding uplinkIn
   bare-uplink n s =
-      ap (λ (i : ℕ). call (map bareRow rows) i (getD (map bareRow rows) i blank)) meter-bare
+      ap (λ (i : ℕ). call (map bareRow rows) i (getD (map bareRow rows) i noRow)) meter-bare
       ∙ ap (call (map bareRow rows) (meterAt rows x)) row-bare
       ∙ by (ltb 63 s)
     where
@@ -106,7 +102,7 @@ module _ (rows : List Row) (x : ℕ) where
       i = meterAt rows x
 
       r : Row
-      r = getD rows i blank
+      r = getD rows i noRow
 
       by : (b : Bool) → cond b (left (credit.Refused 25) (map bareRow rows)) (changed (map bareRow rows) i (hearOf i (bareRow r) n s .row) (hearOf i (bareRow r) n s .answer) (credit.Refused 21))
           ≡ bareLeft (cond b (left (credit.Refused 25) rows) (changed rows i (hearOf i r n s .row) (hearOf i r n s .answer) (credit.Refused 21)))
@@ -124,9 +120,9 @@ each f g h e [] = refl
 each f g h e (a ∷ l) = ap₂ _∷_ (e a) (each f g h e l)
 
 module _ (c : Columns) where
-  rows-bare : rowsOf (bare c) ≡ map bareRow (rowsOf c)
-  unfolding rowsOf
-  rows-bare = each (rowAt (bare c)) bareRow (rowAt c) row (below (length (c .used)))
+  rows-bare : tableRows (bare c) ≡ map bareRow (tableRows c)
+  unfolding tableRows
+  rows-bare = each (rowAt (bare c)) bareRow (rowAt c) row (numbersTo (length (c .used)))
     where
       row : (i : ℕ) → rowAt (bare c) i ≡ bareRow (rowAt c i)
       row i = ap (λ (s : ℕ). record { used = getD (c .used) i 0; eui = getD (c .euis) i 0; short = s; last = getD (c .lasts) i 0; heard = getD (c .heards) i 0 }) (zeros (c .shorts) i)
@@ -147,18 +143,18 @@ columns-bare rows =
 module _ {A : Type 0} (told : A → Columns → Done A) (unequal : A) (c : Columns) (told-bare : (a : A) (d : Columns) → told a (bare d) ≡ bareDone (told a d)) where
   bare-call : (call call′ : List Row → Left A) → ((rows : List Row) → call′ (map bareRow rows) ≡ bareLeft (call rows)) → onRows told unequal call′ (bare c) ≡ bareDone (onRows told unequal call c)
   bare-call call call′ e =
-      ap (λ (b : Bool). cond b (told (call′ (rowsOf (bare c)) .answer) (columnsOf (call′ (rowsOf (bare c)) .rows))) (told unequal (bare c))) (even-bare c)
+      ap (λ (b : Bool). cond b (told (call′ (tableRows (bare c)) .answer) (columnsOf (call′ (tableRows (bare c)) .rows))) (told unequal (bare c))) (even-bare c)
       ∙ by (even c)
     where
-      rows-of : call′ (rowsOf (bare c)) ≡ bareLeft (call (rowsOf c))
-      rows-of = ap call′ (rows-bare c) ∙ e (rowsOf c)
+      rows-of : call′ (tableRows (bare c)) ≡ bareLeft (call (tableRows c))
+      rows-of = ap call′ (rows-bare c) ∙ e (tableRows c)
 
-      by : (b : Bool) → cond b (told (call′ (rowsOf (bare c)) .answer) (columnsOf (call′ (rowsOf (bare c)) .rows))) (told unequal (bare c))
-          ≡ bareDone (cond b (told (call (rowsOf c) .answer) (columnsOf (call (rowsOf c) .rows))) (told unequal c))
+      by : (b : Bool) → cond b (told (call′ (tableRows (bare c)) .answer) (columnsOf (call′ (tableRows (bare c)) .rows))) (told unequal (bare c))
+          ≡ bareDone (cond b (told (call (tableRows c) .answer) (columnsOf (call (tableRows c) .rows))) (told unequal c))
       by true =
           ap (λ (l : Left A). told (l .answer) (columnsOf (l .rows))) rows-of
-          ∙ ap (told (call (rowsOf c) .answer)) (columns-bare (call (rowsOf c) .rows))
-          ∙ told-bare (call (rowsOf c) .answer) (columnsOf (call (rowsOf c) .rows))
+          ∙ ap (told (call (tableRows c) .answer)) (columns-bare (call (tableRows c) .rows))
+          ∙ told-bare (call (tableRows c) .answer) (columnsOf (call (tableRows c) .rows))
       by false = told-bare unequal c
 
 module _ (c : Columns) (x : ℕ) where

@@ -7,12 +7,10 @@ use mathlib.Core.List.{List, [], _∷_, _++_}
 use native.Mathlib.Nat.{mod-one, mod-lt, mod-eq-of-lt, one-mul, add-zero, add-comm}
 use native.Mathlib.Numerals.{one-add}
 use native.Mathlib.Omega.{arith}
-use lib.Dec.{eqb, lit<}
-use lib.ListN.{length, length-append}
+use lib.{Dec.eqb, Dec.lit<, ListN.length, ListN.length-append, Count.ones, Count.ones-cat}
 use lib.Bits.{bitAnd, bitOr, or-add-and, and-high, or-lt}
-use lib.Count.{ones, ones-cat}
 use lib.Pow.{pow-pos, pow-lt, mod-pow-add, high-ones, shl-exact}
-use Rattle.meters.specs.Stations.{below, passing, hears, stations, hearers, alone, joined}
+use Rattle.meters.specs.Stations.{numbersTo, passing, hears, stations, hearers, alone, withHearer}
 
 pub passing-append : (t : ℕ → Bool) (xs ys : List ℕ) → passing t (xs ++ ys) ≡ passing t xs ++ passing t ys
 unfolding passing
@@ -35,12 +33,12 @@ low-bits : (n h : ℕ) → h % 2 ^ suc n ≡ (h / 2 ^ n % 2) * 2 ^ n + h % 2 ^ n
 low-bits n h = ap (λ (k : ℕ). h % 2 ^ k) (sym (one-add n)) ∙ mod-pow-add h 1 n
 
 -- the stations below n are the ones of the n lowest bits
-pub heard-below : (n h : ℕ) → length (passing (hears h) (below n)) ≡ ones (h % 2 ^ n)
-unfolding below passing hears ones
+pub heard-below : (n h : ℕ) → length (passing (hears h) (numbersTo n)) ≡ ones (h % 2 ^ n)
+unfolding numbersTo passing hears ones
 heard-below zero h = sym (ap ones (mod-one h))
 heard-below (suc n) h =
-    ap length (passing-append (hears h) (below n) (n ∷ []))
-    ∙ length-append (passing (hears h) (below n)) (passing (hears h) (n ∷ []))
+    ap length (passing-append (hears h) (numbersTo n) (n ∷ []))
+    ∙ length-append (passing (hears h) (numbersTo n)) (passing (hears h) (n ∷ []))
     ∙ ap (λ (k : ℕ). k + length (passing (hears h) (n ∷ []))) (heard-below n h)
     ∙ ap (λ (k : ℕ). ones (h % 2 ^ n) + k) (bit (h / 2 ^ n % 2) n (mod-lt (h / 2 ^ n) (lit< tt)))
     ∙ add-comm (ones (h % 2 ^ n)) (ones (h / 2 ^ n % 2))
@@ -71,9 +69,9 @@ or-bit zero h p o l e = omega arith
 or-bit (suc zero) h p o l e = omega arith
 or-bit (suc (suc d)) h p o l e = absurd (omega arith)
 
-pub or-joined : (h s : ℕ) → bitOr h (2 ^ s) ≡ joined h s
-unfolding joined hears
+pub or-joined : (h s : ℕ) → bitOr h (2 ^ s) ≡ withHearer h s
+unfolding withHearer hears
 or-joined h s = or-bit (h / 2 ^ s % 2) h (2 ^ s) (bitOr h (2 ^ s)) (mod-lt (h / 2 ^ s) (lit< tt)) (ap (λ (k : ℕ). bitOr h (2 ^ s) + k) (sym (and-bit h s)) ∙ or-add-and h (2 ^ s))
 
-pub joined-lt : (h s : ℕ) → h < 2 ^ 64 → s < 64 → joined h s < 2 ^ 64
+pub joined-lt : (h s : ℕ) → h < 2 ^ 64 → s < 64 → withHearer h s < 2 ^ 64
 joined-lt h s l g = rw (← or-joined h s) (or-lt 64 h (2 ^ s) l (pow-lt g))

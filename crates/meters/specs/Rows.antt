@@ -2,15 +2,13 @@
 use Prim.Native.Nat.{ℕ}
 use mathlib.Core.Bool.{Bool, not, _&&_, cond}
 use lib.Dec.{eqb, ltb}
-use Rattle.meters.specs.declared.Row.{Row}
-use Rattle.meters.specs.declared.Heard.{Heard}
-use Rattle.meters.specs.declared.Credit.{Credit}
-use Rattle.meters.specs.declared.Credit.the-variants.{New, Copy, Refused}
-use Rattle.meters.specs.Stations.{hearers, nobody, alone, joined}
+use Rattle.meters.specs.declared.{Row.Row, Heard.Heard}
+use Rattle.meters.specs.declared.Credit.{Credit, the-variants.New, the-variants.Copy, the-variants.Refused}
+use Rattle.meters.specs.Stations.{hearers, nobody, alone, withHearer}
 
 -- "used (a byte: 0 free, else used)"
-abbrev pub isFree : Row → Bool
-isFree r = eqb (r .used) 0
+abbrev pub isFreeRow : Row → Bool
+isFreeRow r = eqb (r .used) 0
 
 -- "used row with that EUI": no other column decides
 abbrev pub isMark : ℕ → ℕ → ℕ → Bool
@@ -41,5 +39,5 @@ hearOf i r counter station =
     cond (ltb (r .last) counter)
     (credited New i (heardAs r counter (alone station)))
     (cond (eqb counter (r .last) && not (eqb (r .heard) nobody))
-    (credited Copy i (heardAs r (r .last) (joined (r .heard) station)))
+    (credited Copy i (heardAs r (r .last) (withHearer (r .heard) station)))
     (record { row = r; answer = Refused 26 }))

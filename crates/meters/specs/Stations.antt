@@ -2,13 +2,12 @@
 use Prim.Native.Nat.{ℕ, zero, suc, _+_, _/_, _%_, _^_}
 use mathlib.Core.Bool.{Bool, cond}
 use mathlib.Core.List.{List, [], _∷_, _++_}
-use lib.Dec.{eqb}
-use lib.ListN.{length}
+use lib.{Dec.eqb, ListN.length}
 
 -- the numbers below n, in order
-unfoldable pub below : ℕ → List ℕ
-below zero = []
-below (suc n) = below n ++ (n ∷ [])
+unfoldable pub numbersTo : ℕ → List ℕ
+numbersTo zero = []
+numbersTo (suc n) = numbersTo n ++ (n ∷ [])
 
 -- those of a list that pass a test, in order
 unfoldable pub passing : (ℕ → Bool) → List ℕ → List ℕ
@@ -21,7 +20,7 @@ hears h s = eqb (h / 2 ^ s % 2) 1
 
 -- the set of stations of a heard number
 unfoldable pub stations : ℕ → List ℕ
-stations h = passing (hears h) (below 64)
+stations h = passing (hears h) (numbersTo 64)
 
 -- "how many base stations heard the packet so far"
 unfoldable pub hearers : ℕ → ℕ
@@ -34,5 +33,5 @@ nobody = 0
 abbrev pub alone : ℕ → ℕ
 alone s = 2 ^ s
 
-unfoldable pub joined : ℕ → ℕ → ℕ
-joined h s = cond (hears h s) h (h + 2 ^ s)
+unfoldable pub withHearer : ℕ → ℕ → ℕ
+withHearer h s = cond (hears h s) h (h + 2 ^ s)

@@ -1,20 +1,15 @@
 -- The table's calls on a list of rows: each gives its answer and the rows afterwards (document 01, "Meter table").
 use Prim.Native.Nat.{ℕ, suc}
-use mathlib.Core.Bool.{Bool, cond}
-use mathlib.Core.List.{List, [], _∷_}
-use lib.Dec.{ltb}
-use lib.ListN.{length, getD, set}
-use Rattle.meters.specs.declared.Row.{Row}
-use Rattle.meters.specs.declared.Heard.{Heard}
-use Rattle.meters.specs.declared.Found.{Found}
+use mathlib.Core.{Bool.Bool, Bool.cond, List.List, List.[], List._∷_}
+use lib.{Dec.ltb, ListN.length, ListN.getD, ListN.set}
+use Rattle.meters.specs.declared.{Row.Row, Heard.Heard, Found.Found, Credit.Credit}
 use Rattle.meters.specs.declared.Found.the-variants as found
-use Rattle.meters.specs.declared.Credit.{Credit}
 use Rattle.meters.specs.declared.Credit.the-variants as credit
-use Rattle.meters.specs.Rows.{isFree, isMeter, enrolled, withdrawn, hearOf}
+use Rattle.meters.specs.Rows.{isFreeRow, isMeter, enrolled, withdrawn, hearOf}
 
 -- what stands past the table's end
-abbrev pub blank : Row
-blank = record { used = 0; eui = 0; short = 0; last = 0; heard = 0 }
+abbrev pub noRow : Row
+noRow = record { used = 0; eui = 0; short = 0; last = 0; heard = 0 }
 
 -- an answer, and the rows afterwards
 pub record Left (A : Type 0) : Type 0 where
@@ -35,7 +30,7 @@ meterAt rows eui = first (isMeter eui) rows
 
 -- "the lowest free row"
 abbrev pub freeAt : List Row → ℕ
-freeAt rows = first isFree rows
+freeAt rows = first isFreeRow rows
 
 -- the row at i becomes this row, and every other row stays; where the table has no row i, the call is refused and all rows stay
 abbrev pub changed : {A : Type 0} → List Row → ℕ → Row → A → A → Left A
@@ -54,11 +49,11 @@ enrolIn rows eui short counter =
 
 -- "Withdraw clears the used mark and nothing else (21)"
 unfoldable pub withdrawIn : List Row → ℕ → Left Found
-withdrawIn rows eui = changed rows (meterAt rows eui) (withdrawn (getD rows (meterAt rows eui) blank)) (found.At (meterAt rows eui)) (found.Refused 21)
+withdrawIn rows eui = changed rows (meterAt rows eui) (withdrawn (getD rows (meterAt rows eui) noRow)) (found.At (meterAt rows eui)) (found.Refused 21)
 
 -- what an uplink makes of the meter's row
 abbrev pub heardIn : List Row → ℕ → ℕ → ℕ → Heard
-heardIn rows eui counter station = hearOf (meterAt rows eui) (getD rows (meterAt rows eui) blank) counter station
+heardIn rows eui counter station = hearOf (meterAt rows eui) (getD rows (meterAt rows eui) noRow) counter station
 
 -- 25, then 21, else the row's rule
 unfoldable pub uplinkIn : List Row → ℕ → ℕ → ℕ → Left Credit

@@ -1,17 +1,14 @@
 // The meter table: five columns lent by the caller, one row a meter. Meters are told apart by their long address (EUI) alone.
 ghost use mathlib.Core.Path.{_≡_};
 ghost use Prim.Native.Nat.{_<_};
-ghost use Rattle.meters.specs.Rows.{hearOf};
-ghost use Rattle.meters.specs.Columns.{columns, Even, toldPlace, toldCredit, findOn, enrolOn, withdrawOn, uplinkOn};
+ghost use Rattle.meters.specs.{Rows.hearOf, code.Store.Even};
+ghost use Rattle.meters.specs.Columns.{columns, toldPlace, toldCredit, findOn, enrolOn, withdrawOn, uplinkOn};
 
+mod refusals;
 mod store;
 
-use store::free_place;
-use store::is_even;
-use store::place;
-use store::put_heard;
-use store::put_row;
-use store::row_at;
+// Stations are numbered from 0.
+const MOST_STATION: u64 = 63;
 
 // A row's values. `used` is 0 for a free row; bit s of `heard` is station s.
 pub struct Row {
@@ -66,7 +63,7 @@ fn hear(i: usize, row: Row, counter: u32, station: u64) -> Heard
     }
     Heard {
         row: row,
-        answer: Credit::Refused(26),
+        answer: Credit::Refused(refusals::STALE),
     }
 }
 
@@ -82,18 +79,18 @@ pub fn find(
     ensures { λ r. ⌜ toldPlace r (columns (now (used .entry)) (now (euis .entry)) (now (shorts .entry)) (now (lasts .entry)) (now (heards .entry)))
         ≡ findOn (columns (now (used .entry)) (now (euis .entry)) (now (shorts .entry)) (now (lasts .entry)) (now (heards .entry))) eui ⌝ }
 {
-    if !is_even(
+    if !store::is_even(
         used.len(),
         euis.len(),
         shorts.len(),
         lasts.len(),
         heards.len(),
     ) {
-        return Found::Refused(24);
+        return Found::Refused(refusals::UNEQUAL_COLUMNS);
     }
-    let i = place(used, euis, eui);
+    let i = store::place(used, euis, eui);
     if used.len() <= i {
-        return Found::Refused(21);
+        return Found::Refused(refusals::NO_ROW);
     }
     Found::At(i)
 }
@@ -112,14 +109,14 @@ pub fn enrol(
     ensures { λ r. ⌜ toldPlace r (columns (now (used .exit)) (now (euis .exit)) (now (shorts .exit)) (now (lasts .exit)) (now (heards .exit)))
         ≡ enrolOn (columns (now (used .entry)) (now (euis .entry)) (now (shorts .entry)) (now (lasts .entry)) (now (heards .entry))) eui short counter ⌝ }
 {
-    if !is_even(
+    if !store::is_even(
         used.len(),
         euis.len(),
         shorts.len(),
         lasts.len(),
         heards.len(),
     ) {
-        return Found::Refused(24);
+        return Found::Refused(refusals::UNEQUAL_COLUMNS);
     }
     enrol_in(used, euis, shorts, lasts, heards, eui, short, counter)
 }
@@ -139,12 +136,12 @@ fn enrol_in(
     ensures { λ r. ⌜ toldPlace r (columns (now (used .exit)) (now (euis .exit)) (now (shorts .exit)) (now (lasts .exit)) (now (heards .exit)))
         ≡ enrolOn (columns (now (used .entry)) (now (euis .entry)) (now (shorts .entry)) (now (lasts .entry)) (now (heards .entry))) eui short counter ⌝ }
 {
-    if place(used, euis, eui) < used.len() {
-        return Found::Refused(22);
+    if store::place(used, euis, eui) < used.len() {
+        return Found::Refused(refusals::ALREADY_ENROLLED);
     }
-    let i = free_place(used);
+    let i = store::free_place(used);
     if used.len() <= i {
-        return Found::Refused(23);
+        return Found::Refused(refusals::NO_FREE_ROW);
     }
     let row = Row {
         used: 1,
@@ -153,7 +150,7 @@ fn enrol_in(
         last: counter,
         heard: 0,
     };
-    put_row(used, euis, shorts, lasts, heards, i, row);
+    store::put_row(used, euis, shorts, lasts, heards, i, row);
     Found::At(i)
 }
 
@@ -169,18 +166,18 @@ pub fn withdraw(
     ensures { λ r. ⌜ toldPlace r (columns (now (used .exit)) (now (euis .entry)) (now (shorts .entry)) (now (lasts .entry)) (now (heards .entry)))
         ≡ withdrawOn (columns (now (used .entry)) (now (euis .entry)) (now (shorts .entry)) (now (lasts .entry)) (now (heards .entry))) eui ⌝ }
 {
-    if !is_even(
+    if !store::is_even(
         used.len(),
         euis.len(),
         shorts.len(),
         lasts.len(),
         heards.len(),
     ) {
-        return Found::Refused(24);
+        return Found::Refused(refusals::UNEQUAL_COLUMNS);
     }
-    let i = place(used, euis, eui);
+    let i = store::place(used, euis, eui);
     if used.len() <= i {
-        return Found::Refused(21);
+        return Found::Refused(refusals::NO_ROW);
     }
     used[i] = 0;
     Found::At(i)
@@ -200,14 +197,14 @@ pub fn uplink(
     ensures { λ r. ⌜ toldCredit r (columns (now (used .entry)) (now (euis .entry)) (now (shorts .entry)) (now (lasts .exit)) (now (heards .exit)))
         ≡ uplinkOn (columns (now (used .entry)) (now (euis .entry)) (now (shorts .entry)) (now (lasts .entry)) (now (heards .entry))) eui counter station ⌝ }
 {
-    if !is_even(
+    if !store::is_even(
         used.len(),
         euis.len(),
         shorts.len(),
         lasts.len(),
         heards.len(),
     ) {
-        return Credit::Refused(24);
+        return Credit::Refused(refusals::UNEQUAL_COLUMNS);
     }
     uplink_in(used, euis, shorts, lasts, heards, eui, counter, station)
 }
@@ -227,16 +224,16 @@ fn uplink_in(
     ensures { λ r. ⌜ toldCredit r (columns (now (used .entry)) (now (euis .entry)) (now (shorts .entry)) (now (lasts .exit)) (now (heards .exit)))
         ≡ uplinkOn (columns (now (used .entry)) (now (euis .entry)) (now (shorts .entry)) (now (lasts .entry)) (now (heards .entry))) eui counter station ⌝ }
 {
-    if 63 < station {
-        return Credit::Refused(25);
+    if MOST_STATION < station {
+        return Credit::Refused(refusals::STATION_NUMBER);
     }
-    let i = place(used, euis, eui);
+    let i = store::place(used, euis, eui);
     if used.len() <= i {
-        return Credit::Refused(21);
+        return Credit::Refused(refusals::NO_ROW);
     }
-    let row = row_at(used, euis, shorts, lasts, heards, i);
+    let row = store::row_at(used, euis, shorts, lasts, heards, i);
     let told = hear(i, row, counter, station);
     let next = told.row;
-    put_heard(lasts, heards, i, next);
+    store::put_heard(lasts, heards, i, next);
     told.answer
 }

@@ -2,8 +2,8 @@
 ghost use mathlib.Core.Path.{_≡_};
 ghost use Prim.Native.Nat.{_<_};
 ghost use lib.ListN.{length, set};
-ghost use Rattle.meters.specs.Rows.{isMark};
-ghost use Rattle.meters.specs.Columns.{columns, rowAt, putRow, Even, meterPlace, freePlace, sameLengths};
+ghost use Rattle.meters.specs.{Rows.isMark, Columns.columns, Columns.rowAt, Columns.sameLengths};
+ghost use Rattle.meters.specs.code.Store.{putRow, Even, meterPlace, freeRow};
 use crate::Row;
 
 // Whether five columns of these lengths make a table.
@@ -37,7 +37,7 @@ pub(crate) fn place(used: &[u8], euis: &[u64], eui: u64) -> usize
 
 // The lowest free row, or the table's length.
 pub(crate) fn free_place(used: &[u8]) -> usize
-    ensures { λ r. ⌜ r ≡ freePlace (now (used .entry)) ⌝ }
+    ensures { λ r. ⌜ r ≡ freeRow (now (used .entry)) ⌝ }
 {
     let mut i: usize = 0;
     while i < used.len() {

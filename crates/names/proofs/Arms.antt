@@ -10,7 +10,7 @@ use lib.ListN.{length}
 use borrow.Author.Tests.{eqb-true}
 use Rattle.octets.specs.Choice.{either}
 use Rattle.octets.proofs.Ranges.{is-false, both-left, both-right}
-use Rattle.names.specs.Numbers.{firstOf, restOf, hasNumbers, firstWith, placeBy}
+use Rattle.names.specs.code.Numbers.{firstOf, restOf, hasNumbers, firstWith, placeBy}
 
 -- a test that every name passes
 abbrev pub each : (List ℕ → Bool) → List (List ℕ) → Bool

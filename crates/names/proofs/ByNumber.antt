@@ -5,18 +5,14 @@ use mathlib.Core.Bool.{Bool, true, _&&_}
 use mathlib.Core.List.{List, [], _∷_, _++_}
 use Prim.Native.Nat.{ℕ, suc, _-_, _≤_}
 use native.Mathlib.Omega.{arith}
-use lib.Dec.{T, eqb, eqb→eq}
-use lib.Pow.{areBytes}
+use lib.{Dec.T, Dec.eqb, Dec.eqb→eq, Pow.areBytes, Seq.take-all}
 use lib.ListN.{length, take, drop, take-append-drop, length-drop}
-use lib.Seq.{take-all}
 use borrow.Author.Tests.{eq-eqb}
-use Rattle.octets.specs.Choice.{either}
-use Rattle.octets.specs.Number.{bigAt}
-use Rattle.octets.specs.Bytes.{IsBytes}
+use Rattle.octets.specs.{Choice.either, Number.bigAt, Bytes.IsBytes}
 use Rattle.octets.proofs.Ranges.{both-left, both-right, same-test, are-bytes}
 use Rattle.octets.proofs.Digits.{big-same}
 use Rattle.names.specs.Names.{sameBytes, placeIn}
-use Rattle.names.specs.Numbers.{firstOf, restOf, hasNumbers, firstWith, placeBy}
+use Rattle.names.specs.code.Numbers.{firstOf, restOf, hasNumbers, firstWith, placeBy}
 use Rattle.names.proofs.Same.{same-eq, eq-same}
 
 module _ (a u : List ℕ) (av : IsBytes a) (uv : IsBytes u) (m : ℕ) (h : m ≤ length u) where

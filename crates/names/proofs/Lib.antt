@@ -3,4 +3,3 @@ pub mod Places
 pub mod ByNumber
 pub mod Arms
 pub mod Parts
-pub mod Settled

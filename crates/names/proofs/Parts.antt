@@ -8,16 +8,10 @@ use native.Mathlib.Nat.{le-refl, sub-self, le-trans}
 use native.Mathlib.Omega.{arith}
 use lib.Dec.{T, eqb, eqb→eq, leb, leb→le, lit≤}
 use lib.ListN.{length}
-use Rattle.octets.specs.Choice.{either}
-use Rattle.octets.specs.Number.{bigAt, ifThere}
-use Rattle.octets.proofs.Ranges.{both-left, both-right, is-true}
-use Rattle.octets.proofs.Reading.{Told, is-bytes, if-there}
-use Rattle.octets.proofs.Widths.{big-join}
-use Rattle.names.specs.Names.{sameBytes, placeIn}
-use Rattle.names.specs.Numbers.{hasNumbers, firstWith, placeBy}
-use Rattle.names.proofs.Same.{same-eq}
-use Rattle.names.proofs.Places.{below}
-use Rattle.names.proofs.ByNumber.{allBytes, place-by}
+use Rattle.octets.specs.{Choice.either, Number.bigAt, Number.ifThere}
+use Rattle.octets.proofs.{Ranges.both-left, Ranges.both-right, Ranges.is-true, Reading.Told, Reading.is-bytes, Reading.if-there, Widths.big-join}
+use Rattle.names.specs.{Names.sameBytes, Names.placeIn, code.Numbers.hasNumbers, code.Numbers.firstWith, code.Numbers.placeBy}
+use Rattle.names.proofs.{Same.same-eq, Places.below, ByNumber.allBytes, ByNumber.place-by}
 use Rattle.names.proofs.Arms.{Apart, among, apart, each, nowhere}
 
 -- eight bytes by halves

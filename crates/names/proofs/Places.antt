@@ -11,7 +11,8 @@ use lib.ListN.{length}
 use borrow.Author.Tests.{eqb-true}
 use Rattle.octets.specs.Choice.{either}
 use Rattle.octets.proofs.Ranges.{is-false, both-left, both-right}
-use Rattle.names.specs.Names.{keys, commands, sameBytes, placeIn, nameAt, slotOf, commandOf}
+use Rattle.names.specs.Names.{commands, sameBytes, placeIn, nameAt, commandOf}
+use Rattle.names.specs.code.Slots.{keys, slotOf}
 use Rattle.names.proofs.Same.{same-refl, same-eq}
 
 -- u is none of the names

@@ -1,7 +1,6 @@
 -- The test of bytes is equality of lists. Assumes nothing.
 use mathlib.Core.Path.{_≡_, refl, ap₂, subst}
-use mathlib.Core.Bool.{true}
-use mathlib.Core.List.{List, [], _∷_}
+use mathlib.Core.{Bool.true, List.List, List.[], List._∷_}
 use Prim.Native.Nat.{ℕ}
 use lib.Dec.{T, eqb, eqb→eq}
 use borrow.Author.Tests.{eq-eqb}
@@ -15,7 +14,7 @@ same-refl (x ∷ xs) = rw (eq-eqb x x refl) (same-refl xs)
 pub eq-same : (a b : List ℕ) → a ≡ b → sameBytes a b ≡ true
 eq-same a b e = subst (λ (x : List ℕ). sameBytes a x ≡ true) e (same-refl a)
 
-passed-eq : (a b : List ℕ) → T (sameBytes a b) → a ≡ b
+pub passed-eq : (a b : List ℕ) → T (sameBytes a b) → a ≡ b
 passed-eq [] [] t = refl
 passed-eq [] (y ∷ ys) t = absurd t
 passed-eq (x ∷ xs) [] t = absurd t

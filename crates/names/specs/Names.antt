@@ -1,8 +1,5 @@
--- Document 01, "Commands": the names of the 21 commands and the keys of all their fields, spelled as source document 000 spells them.
--- Names are compared as bytes.
-use Prim.Native.Char.{code}
-use Prim.Native.Nat.{ℕ, zero, suc}
-use Prim.Native.String.{String, [] as nothing, _∷_ as _then_}
+-- Document 01, "Commands": the names of the 21 commands, spelled as source document 000 spells them. Names are compared as bytes.
+use Prim.Native.{Char.code, Nat.ℕ, Nat.zero, Nat.suc, String.String, String.[] as nothing, String._∷_ as _then_}
 use mathlib.Core.Bool.{Bool, true, false, _&&_}
 use mathlib.Core.List.{List, [], _∷_}
 use lib.Dec.{eqb}
@@ -16,82 +13,9 @@ bytes (_then_ c s) = code c ∷ bytes s
 -- the commands, each by its place here
 unfoldable pub commands : List (List ℕ)
 commands =
-    bytes "con" ∷
-    bytes "conRsp" ∷
-    bytes "statusRsp" ∷
-    bytes "det" ∷
-    bytes "detRsp" ∷
-    bytes "attPrp" ∷
-    bytes "detPrp" ∷
-    bytes "ulData" ∷
-    bytes "conCmp" ∷
-    bytes "ping" ∷
-    bytes "pingRsp" ∷
-    bytes "pingCmp" ∷
-    bytes "status" ∷
-    bytes "statusCmp" ∷
-    bytes "detCmp" ∷
-    bytes "attPrpRsp" ∷
-    bytes "attPrpCmp" ∷
-    bytes "detPrpRsp" ∷
-    bytes "detPrpCmp" ∷
-    bytes "ulDataRsp" ∷
-    bytes "ulDataCmp" ∷
-    []
-
--- the keys, each once and by its place here, in the order in which document 01 first names them
-unfoldable pub keys : List (List ℕ)
-keys =
-    bytes "command" ∷
-    bytes "opId" ∷
-    bytes "version" ∷
-    bytes "bsEui" ∷
-    bytes "bidi" ∷
-    bytes "geoLocation" ∷
-    bytes "snBsUuid" ∷
-    bytes "snBsOpId" ∷
-    bytes "snScOpId" ∷
-    bytes "vendor" ∷
-    bytes "model" ∷
-    bytes "name" ∷
-    bytes "swVersion" ∷
-    bytes "info" ∷
-    bytes "scEui" ∷
-    bytes "snResume" ∷
-    bytes "snScUuid" ∷
-    bytes "code" ∷
-    bytes "message" ∷
-    bytes "time" ∷
-    bytes "dutyCycle" ∷
-    bytes "uptime" ∷
-    bytes "temp" ∷
-    bytes "cpuLoad" ∷
-    bytes "memLoad" ∷
-    bytes "config" ∷
-    bytes "epEui" ∷
-    bytes "rxTime" ∷
-    bytes "rxDuration" ∷
-    bytes "packetCnt" ∷
-    bytes "snr" ∷
-    bytes "rssi" ∷
-    bytes "eqSnr" ∷
-    bytes "profile" ∷
-    bytes "sign" ∷
-    bytes "subpackets" ∷
-    bytes "nwkSnKey" ∷
-    bytes "shAddr" ∷
-    bytes "lastPacketCnt" ∷
-    bytes "dualChan" ∷
-    bytes "repetition" ∷
-    bytes "wideCarrOff" ∷
-    bytes "longBlkDist" ∷
-    bytes "userData" ∷
-    bytes "format" ∷
-    bytes "dlOpen" ∷
-    bytes "responseExp" ∷
-    bytes "dlAck" ∷
-    bytes "mode" ∷
-    []
+    bytes "con" ∷ bytes "conRsp" ∷ bytes "statusRsp" ∷ bytes "det" ∷ bytes "detRsp" ∷ bytes "attPrp" ∷ bytes "detPrp" ∷ bytes "ulData" ∷
+    bytes "conCmp" ∷ bytes "ping" ∷ bytes "pingRsp" ∷ bytes "pingCmp" ∷ bytes "status" ∷ bytes "statusCmp" ∷ bytes "detCmp" ∷ bytes "attPrpRsp" ∷
+    bytes "attPrpCmp" ∷ bytes "detPrpRsp" ∷ bytes "detPrpCmp" ∷ bytes "ulDataRsp" ∷ bytes "ulDataCmp" ∷ []
 
 abbrev pub sameBytes : List ℕ → List ℕ → Bool
 sameBytes [] [] = true
@@ -109,10 +33,6 @@ unfoldable pub nameAt : List (List ℕ) → ℕ → List ℕ
 nameAt [] k = []
 nameAt (n ∷ ns) zero = n
 nameAt (n ∷ ns) (suc k) = nameAt ns k
-
--- the key's slot: 0 to 48, and 49 for a key of no command
-unfoldable pub slotOf : List ℕ → ℕ
-slotOf u = placeIn keys u
 
 -- the command's number: 0 to 20, and 21 for a name of no command
 unfoldable pub commandOf : List ℕ → ℕ

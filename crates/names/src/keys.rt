@@ -1,15 +1,15 @@
 // The keys, a function for each length, the names in the order of the definitions. x is the number of a name's first
-// two, four or eight bytes, the most that it has, and y that of the others. 49 is no key.
+// two, four or eight bytes, the most that it has, and y that of the others. Each answers the key's slot.
+use crate::slots::NONE;
 ghost use mathlib.Core.Path.{_≡_};
-ghost use Rattle.names.specs.Names.{keys};
-ghost use Rattle.names.specs.Numbers.{placeBy};
+ghost use Rattle.names.specs.{code.Slots.keys, code.Numbers.placeBy};
 
 pub fn three(x: u64, y: u64) -> usize
     ensures { λ r. ⌜ r ≡ placeBy keys 3 2 x y ⌝ }
 {
     match x {
-        0x736E /* snr */ => if y == 0x72 { 30 } else { 49 },
-        _ => 49,
+        0x736E /* snr */ => if y == 0x72 { 30 } else { NONE },
+        _ => NONE,
     }
 }
 
@@ -27,7 +27,7 @@ pub fn four(x: u64) -> usize
         0x72737369 /* rssi */ => 31,
         0x7369676E /* sign */ => 34,
         0x6D6F6465 /* mode */ => 48,
-        _ => 49,
+        _ => NONE,
     }
 }
 
@@ -35,13 +35,13 @@ pub fn five(x: u64, y: u64) -> usize
     ensures { λ r. ⌜ r ≡ placeBy keys 5 4 x y ⌝ }
 {
     match x {
-        0x62734575 /* bsEui */ => if y == 0x69 { 3 } else { 49 },
-        0x6D6F6465 /* model */ => if y == 0x6C { 10 } else { 49 },
-        0x73634575 /* scEui */ => if y == 0x69 { 14 } else { 49 },
-        0x65704575 /* epEui */ => if y == 0x69 { 26 } else { 49 },
-        0x6571536E /* eqSnr */ => if y == 0x72 { 32 } else { 49 },
-        0x646C4163 /* dlAck */ => if y == 0x6B { 47 } else { 49 },
-        _ => 49,
+        0x62734575 /* bsEui */ => if y == 0x69 { 3 } else { NONE },
+        0x6D6F6465 /* model */ => if y == 0x6C { 10 } else { NONE },
+        0x73634575 /* scEui */ => if y == 0x69 { 14 } else { NONE },
+        0x65704575 /* epEui */ => if y == 0x69 { 26 } else { NONE },
+        0x6571536E /* eqSnr */ => if y == 0x72 { 32 } else { NONE },
+        0x646C4163 /* dlAck */ => if y == 0x6B { 47 } else { NONE },
+        _ => NONE,
     }
 }
 
@@ -49,14 +49,14 @@ pub fn six(x: u64, y: u64) -> usize
     ensures { λ r. ⌜ r ≡ placeBy keys 6 4 x y ⌝ }
 {
     match x {
-        0x76656E64 /* vendor */ => if y == 0x6F72 { 9 } else { 49 },
-        0x75707469 /* uptime */ => if y == 0x6D65 { 21 } else { 49 },
-        0x636F6E66 /* config */ => if y == 0x6967 { 25 } else { 49 },
-        0x72785469 /* rxTime */ => if y == 0x6D65 { 27 } else { 49 },
-        0x73684164 /* shAddr */ => if y == 0x6472 { 37 } else { 49 },
-        0x666F726D /* format */ => if y == 0x6174 { 44 } else { 49 },
-        0x646C4F70 /* dlOpen */ => if y == 0x656E { 45 } else { 49 },
-        _ => 49,
+        0x76656E64 /* vendor */ => if y == 0x6F72 { 9 } else { NONE },
+        0x75707469 /* uptime */ => if y == 0x6D65 { 21 } else { NONE },
+        0x636F6E66 /* config */ => if y == 0x6967 { 25 } else { NONE },
+        0x72785469 /* rxTime */ => if y == 0x6D65 { 27 } else { NONE },
+        0x73684164 /* shAddr */ => if y == 0x6472 { 37 } else { NONE },
+        0x666F726D /* format */ => if y == 0x6174 { 44 } else { NONE },
+        0x646C4F70 /* dlOpen */ => if y == 0x656E { 45 } else { NONE },
+        _ => NONE,
     }
 }
 
@@ -64,13 +64,13 @@ pub fn seven(x: u64, y: u64) -> usize
     ensures { λ r. ⌜ r ≡ placeBy keys 7 4 x y ⌝ }
 {
     match x {
-        0x636F6D6D /* command */ => if y == 0x616E64 { 0 } else { 49 },
-        0x76657273 /* version */ => if y == 0x696F6E { 2 } else { 49 },
-        0x6D657373 /* message */ => if y == 0x616765 { 18 } else { 49 },
-        0x6370754C /* cpuLoad */ => if y == 0x6F6164 { 23 } else { 49 },
-        0x6D656D4C /* memLoad */ => if y == 0x6F6164 { 24 } else { 49 },
-        0x70726F66 /* profile */ => if y == 0x696C65 { 33 } else { 49 },
-        _ => 49,
+        0x636F6D6D /* command */ => if y == 0x616E64 { 0 } else { NONE },
+        0x76657273 /* version */ => if y == 0x696F6E { 2 } else { NONE },
+        0x6D657373 /* message */ => if y == 0x616765 { 18 } else { NONE },
+        0x6370754C /* cpuLoad */ => if y == 0x6F6164 { 23 } else { NONE },
+        0x6D656D4C /* memLoad */ => if y == 0x6F6164 { 24 } else { NONE },
+        0x70726F66 /* profile */ => if y == 0x696C65 { 33 } else { NONE },
+        _ => NONE,
     }
 }
 
@@ -86,7 +86,7 @@ pub fn eight(x: u64) -> usize
         0x6E776B536E4B6579 /* nwkSnKey */ => 36,
         0x6475616C4368616E /* dualChan */ => 39,
         0x7573657244617461 /* userData */ => 43,
-        _ => 49,
+        _ => NONE,
     }
 }
 
@@ -94,10 +94,10 @@ pub fn nine(x: u64, y: u64) -> usize
     ensures { λ r. ⌜ r ≡ placeBy keys 9 8 x y ⌝ }
 {
     match x {
-        0x737756657273696F /* swVersion */ => if y == 0x6E { 12 } else { 49 },
-        0x647574794379636C /* dutyCycle */ => if y == 0x65 { 20 } else { 49 },
-        0x7061636B6574436E /* packetCnt */ => if y == 0x74 { 29 } else { 49 },
-        _ => 49,
+        0x737756657273696F /* swVersion */ => if y == 0x6E { 12 } else { NONE },
+        0x647574794379636C /* dutyCycle */ => if y == 0x65 { 20 } else { NONE },
+        0x7061636B6574436E /* packetCnt */ => if y == 0x74 { 29 } else { NONE },
+        _ => NONE,
     }
 }
 
@@ -105,10 +105,10 @@ pub fn ten(x: u64, y: u64) -> usize
     ensures { λ r. ⌜ r ≡ placeBy keys 10 8 x y ⌝ }
 {
     match x {
-        0x7278447572617469 /* rxDuration */ => if y == 0x6F6E { 28 } else { 49 },
-        0x7375627061636B65 /* subpackets */ => if y == 0x7473 { 35 } else { 49 },
-        0x7265706574697469 /* repetition */ => if y == 0x6F6E { 40 } else { 49 },
-        _ => 49,
+        0x7278447572617469 /* rxDuration */ => if y == 0x6F6E { 28 } else { NONE },
+        0x7375627061636B65 /* subpackets */ => if y == 0x7473 { 35 } else { NONE },
+        0x7265706574697469 /* repetition */ => if y == 0x6F6E { 40 } else { NONE },
+        _ => NONE,
     }
 }
 
@@ -116,11 +116,11 @@ pub fn eleven(x: u64, y: u64) -> usize
     ensures { λ r. ⌜ r ≡ placeBy keys 11 8 x y ⌝ }
 {
     match x {
-        0x67656F4C6F636174 /* geoLocation */ => if y == 0x696F6E { 5 } else { 49 },
-        0x7769646543617272 /* wideCarrOff */ => if y == 0x4F6666 { 41 } else { 49 },
-        0x6C6F6E67426C6B44 /* longBlkDist */ => if y == 0x697374 { 42 } else { 49 },
-        0x726573706F6E7365 /* responseExp */ => if y == 0x457870 { 46 } else { 49 },
-        _ => 49,
+        0x67656F4C6F636174 /* geoLocation */ => if y == 0x696F6E { 5 } else { NONE },
+        0x7769646543617272 /* wideCarrOff */ => if y == 0x4F6666 { 41 } else { NONE },
+        0x6C6F6E67426C6B44 /* longBlkDist */ => if y == 0x697374 { 42 } else { NONE },
+        0x726573706F6E7365 /* responseExp */ => if y == 0x457870 { 46 } else { NONE },
+        _ => NONE,
     }
 }
 
@@ -128,7 +128,7 @@ pub fn thirteen(x: u64, y: u64) -> usize
     ensures { λ r. ⌜ r ≡ placeBy keys 13 8 x y ⌝ }
 {
     match x {
-        0x6C6173745061636B /* lastPacketCnt */ => if y == 0x6574436E74 { 38 } else { 49 },
-        _ => 49,
+        0x6C6173745061636B /* lastPacketCnt */ => if y == 0x6574436E74 { 38 } else { NONE },
+        _ => NONE,
     }
 }

@@ -3,10 +3,12 @@ ghost use mathlib.Core.Path.{_≡_};
 ghost use Prim.Native.Nat.{_≤_};
 ghost use lib.ListN.{length};
 ghost use Rattle.octets.specs.Number.{bigAt, ifThere};
-ghost use Rattle.names.specs.Names.{slotOf, commandOf};
+ghost use Rattle.names.specs.{Names.commandOf, code.Slots.slotOf};
 
 mod commands;
 mod keys;
+pub mod numbers;
+pub mod slots;
 
 use octets::big_at;
 
@@ -26,12 +28,12 @@ pub fn slot_of(key: &[u8]) -> usize
         10 => keys::ten(eight_of(key), big_at(key, 8, 2)),
         11 => keys::eleven(eight_of(key), big_at(key, 8, 3)),
         13 => keys::thirteen(eight_of(key), big_at(key, 8, 5)),
-        _ => 49,
+        _ => slots::NONE,
     }
 }
 
 // The command's number; 21 for a name of no command.
-pub fn command_of(name: &[u8]) -> usize
+pub fn command_of(name: &[u8]) -> u8
     ensures is { λ r. ⌜ r ≡ commandOf (now (name .entry)) ⌝ }
     ensures small { λ r. ⌜ r ≤ 21 ⌝ }
 {
@@ -41,7 +43,7 @@ pub fn command_of(name: &[u8]) -> usize
         6 => commands::six(big_at(name, 0, 4), big_at(name, 4, 2)),
         7 => commands::seven(big_at(name, 0, 4), big_at(name, 4, 3)),
         9 => commands::nine(eight_of(name), big_at(name, 8, 1)),
-        _ => 21,
+        _ => numbers::COMMANDS,
     }
 }
 

@@ -1,4 +1,3 @@
 pub mod Turns
 pub mod Opening
 pub mod Naming
-pub mod Settled

@@ -1,33 +1,25 @@
 -- The command's text at its place: where its bytes are all there it is their name, and where a byte is lacking there is no text.
 -- Assumes nothing.
 use mathlib.Core.Path.{_≡_, refl, sym, ap, _∙_}
-use mathlib.Core.Bool.{Bool, true, false}
-use mathlib.Core.List.{List}
-use mathlib.Core.Option.{Option, some, none}
+use mathlib.Core.{Bool.Bool, Bool.true, Bool.false, List.List, Option.some, Option.none}
 use Prim.Native.Nat.{ℕ, zero, suc, _+_, _-_, _≤_, _<_}
 use native.Mathlib.Omega.{arith}
-use lib.Dec.{leb, ltb}
+use lib.Dec.{leb}
 use lib.ListN.{length, getD, take, drop}
 use borrow.Author.Tests.{lt-ltb, le-ltb, le-leb, lt-leb}
-use Rattle.octets.specs.Choice.{either}
 use Rattle.octets.specs.Number.{bigAt, ifThere}
 use Rattle.octets.proofs.Ranges.{true-false}
-use Rattle.element.specs.declared.Shape.{Shape}
-use Rattle.element.specs.declared.Shape.the-variants.{Never, Plain, Text, Array, Map}
+use Rattle.element.specs.declared.Shape.the-variants.{Text}
 use Rattle.element.specs.declared.Head.{Head}
-use Rattle.element.specs.declared.Span.{Span}
-use Rattle.element.specs.declared.Span.the-variants.{Cut, Ends, Holds}
-use Rattle.element.specs.Lead.{Class, classOf, shapeOf, headBy, rowIn, leadBytes, headOf}
-use Rattle.element.specs.Form.{isText, bodyOf, contentOf, spanOf}
-use Rattle.element.specs.Meaning.{Element, leafOf}
-use Rattle.element.specs.Meaning.Element.{null, text}
-use Rattle.element.specs.At.{bodyFrom, leafTo, leafAt}
+use Rattle.element.specs.declared.Span.{Span, the-variants.Cut, the-variants.Ends, the-variants.Holds}
+use Rattle.element.specs.Lead.{Class, classOf, shapeOf, rowIn, leadBytes, headOf}
+use Rattle.element.specs.{Form.isText, Form.bodyOf, Form.spanOf, Meaning.leafOf, Meaning.Element.text}
+use Rattle.element.specs.{code.At.bodyFrom, code.At.leafTo, code.At.leafAt}
 use Rattle.names.specs.Names.{commandOf}
-use Rattle.field.specs.Judge.{textOf}
-use Rattle.field.specs.At.{shallowBy, shallowAt}
-use Rattle.walk.specs.Short.{Says}
-use Rattle.message.specs.Cells.{numbered, commandAt}
-use Rattle.notes.specs.Noted.{IsTextAt}
+use Rattle.field.specs.{Judge.textOf, code.At.shallowAt}
+use Rattle.walk.specs.code.Short.{Announces}
+use Rattle.message.specs.code.Cells.{numbered, commandAt}
+use Rattle.notes.specs.code.Noted.{IsTextAt}
 use Rattle.notes.proofs.Opening.{is-text}
 
 -- behind the second byte the number is that of the text
@@ -110,7 +102,7 @@ module _ (s : List ℕ) (p : ℕ) where
   pub text-at : 2 ≤ p → p < length s → (m : Bool) → m ≡ isText (headOf (getD s p 0) .shape) → m ≡ true → IsTextAt s p
   text-at g h m f k = record { behind = g; there = h; text = is-text (headOf (getD s p 0) .shape) (sym f ∙ k) }
 
-  module _ (i : IsTextAt s p) (h : Head) (y : Says (getD s p 0) h) where
+  module _ (i : IsTextAt s p) (h : Head) (y : Announces (getD s p 0) h) where
     is-shape : h .shape ≡ Text
     is-shape = ap (λ (q : Head). q .shape) (y .is) ∙ i .text
 

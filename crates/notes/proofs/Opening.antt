@@ -2,34 +2,26 @@
 use mathlib.Core.Path.{_≡_, refl, sym, ap, _∙_}
 use mathlib.Core.Bool.{Bool, true, false, not}
 use mathlib.Core.List.{List}
-use Prim.Native.Nat.{ℕ, zero, suc, _+_, _-_, _^_, _≤_, _<_}
+use Prim.Native.Nat.{ℕ, _+_, _-_, _^_, _≤_, _<_}
 use native.Mathlib.Omega.{arith}
-use lib.Dec.{lit<, leb, ltb, eqb}
-use lib.ListN.{length, getD}
+use lib.{Dec.lit<, Dec.leb, Dec.ltb, ListN.length, ListN.getD}
 use mir.Syntax.{w64}
 use mir.Val.{Fits}
-use borrow.Author.Tests.{lt-ltb, le-ltb, le-leb, lt-leb, eq-eqb, ne-eqb, ltb-true, ltb-false}
-use Rattle.octets.specs.Choice.{either}
-use Rattle.octets.specs.Number.{bigAt, isThere, ifThere}
-use Rattle.octets.proofs.Ranges.{true-false}
-use Rattle.octets.proofs.Widths.{within}
-use Rattle.element.specs.declared.Shape.{Shape}
-use Rattle.element.specs.declared.Shape.the-variants.{Never, Plain, Text, Array, Map}
+use borrow.Author.Tests.{le-leb, lt-leb, eq-eqb, ne-eqb, ltb-true, ltb-false, not-true, not-false}
+use Rattle.octets.specs.{Choice.either, Number.bigAt, Number.isThere, Number.ifThere, Size.isSize}
+use Rattle.octets.proofs.{Ranges.true-false, Widths.within, Sizes.sized-some, Sizes.sized-most}
+use Rattle.element.specs.declared.Shape.{Shape, the-variants.Never, the-variants.Plain, the-variants.Text, the-variants.Array, the-variants.Map}
 use Rattle.element.specs.declared.Head.{Head}
-use Rattle.element.specs.declared.Span.{Span}
-use Rattle.element.specs.declared.Span.the-variants.{Cut, Ends, Holds}
-use Rattle.element.specs.declared.Step.{Step}
-use Rattle.element.specs.declared.Step.the-variants.{Next, Broken}
-use Rattle.element.specs.Lead.{headOf}
-use Rattle.element.specs.Form.{Role, isText, isMap, faultOf, bodyOf, contentOf, spanOf, spanned, elementOf, itemsOf}
-use Rattle.element.proofs.Steps.{Faultless, none-fault, element-span, element-fault, suits-outer}
+use Rattle.element.specs.declared.Span.{Span, the-variants.Cut, the-variants.Ends, the-variants.Holds}
+use Rattle.element.specs.{Lead.headOf, code.Items.itemsOf}
+use Rattle.element.specs.Form.{Role, isText, isMap, faultOf, bodyOf, contentOf, spanOf, spanned, elementOf}
+use Rattle.element.proofs.Steps.{none-fault, element-span, element-fault, suits-outer}
 use Rattle.element.proofs.Passed.{never-used}
-use Rattle.walk.specs.Short.{Says}
+use Rattle.walk.specs.code.Short.{Announces}
 use Rattle.walk.proofs.Leads.{row, map-low, text-low, says-fixmap, says-fixtext}
-use Rattle.message.specs.Notes.{notesOf, unnoted}
-use Rattle.message.specs.Cells.{placesBy, placesOf}
+use Rattle.message.specs.{code.Notes.notesOf, code.Notes.unnoted, code.Cells.placesBy, code.Cells.placesOf}
 use Rattle.notes.specs.declared.Noted.{Noted}
-use Rattle.notes.specs.Noted.{brokenAt, openedOf, notedOf, BeginsMap, IsTextAt}
+use Rattle.notes.specs.code.Noted.{brokenAt, openedOf, notedOf, BeginsMap}
 
 -- a record by its parts
 both : (s : List ℕ) (r : Noted) → r .step ≡ elementOf s 8 Role.outer 0 0 → r .places ≡ placesOf s → r ≡ openedOf s
@@ -76,24 +68,28 @@ no-places s e = go (leb (0 + 1 + headOf (getD s 0 0) .wide) (length s))
     go false = refl
 
 module _ (s : List ℕ) where
-  pub noted-empty : (r : Noted) → r ≡ brokenAt 3 → length s ≡ 0 → r ≡ notedOf s
-  unfolding notedOf
-  noted-empty r e h = e ∙ sym (simp (eq-eqb (length s) 0 h))
+  module _ (b : Bool) (e : b ≡ isSize (length s)) where
+    pub noted-missized : (r : Noted) → r ≡ brokenAt 3 → not b ≡ true → r ≡ notedOf s
+    unfolding notedOf
+    noted-missized r q f = q ∙ sym (simp (← e, not-true b f))
 
-  pub noted-long : (r : Noted) → r ≡ brokenAt 3 → (length s ≡ 0 → ⊥) → 4096 < length s → r ≡ notedOf s
-  unfolding notedOf
-  noted-long r e n h = e ∙ sym (simp (ne-eqb (length s) 0 n, lt-ltb 4096 (length s) h))
+    module _ (f : not b ≡ false) where
+      pub noted-sized : isSize (length s) ≡ true
+      noted-sized = sym e ∙ not-false b f
 
-  pub noted-opened : (r : Noted) → r ≡ openedOf s → (length s ≡ 0 → ⊥) → length s ≤ 4096 → r ≡ notedOf s
-  unfolding notedOf
-  noted-opened r e n h = e ∙ sym (simp (ne-eqb (length s) 0 n, le-ltb 4096 (length s) h))
+      pub noted-opened : (r : Noted) → r ≡ openedOf s → r ≡ notedOf s
+      unfolding notedOf
+      noted-opened r q = q ∙ sym (simp (← e, not-false b f))
 
-  module _ (h : 0 < length s) where
+  module _ (z : isSize (length s) ≡ true) where
+    there : 0 < length s
+    there = sized-some (length s) z
+
     pub opened-never : (r : Noted) → r ≡ brokenAt 5 → getD s 0 0 ≡ 0xC1 → r ≡ openedOf s
     unfolding faultOf
     opened-never r e u =
         e ∙ both s (brokenAt 5)
-        (element-fault s 8 Role.outer 0 0 5 (sym (simp (lt-leb (length s) 0 h, eq-eqb (getD s 0 0) 0xC1 u))) (λ z. omega arith))
+        (element-fault s 8 Role.outer 0 0 5 (sym (simp (lt-leb (length s) 0 there, eq-eqb (getD s 0 0) 0xC1 u))) (λ z. omega arith))
         (no-places s (ap isMap (never-used (getD s 0 0) u)))
 
     module _ (n : getD s 0 0 ≡ 0xC1 → ⊥) (m : Bool) (f : m ≡ isMap (headOf (getD s 0 0) .shape)) where
@@ -101,20 +97,23 @@ module _ (s : List ℕ) where
       unfolding faultOf
       opened-other r e k =
           e ∙ both s (brokenAt 9)
-          (element-fault s 8 Role.outer 0 0 9 (sym (simp (lt-leb (length s) 0 h, ne-eqb (getD s 0 0) 0xC1 n, ← f, k))) (λ z. omega arith))
+          (element-fault s 8 Role.outer 0 0 9 (sym (simp (lt-leb (length s) 0 there, ne-eqb (getD s 0 0) 0xC1 n, ← f, k))) (λ z. omega arith))
           (no-places s (sym f ∙ k))
 
-      pub begins-map : length s ≤ 4096 → m ≡ true → BeginsMap s
-      begins-map l k = record { some = h; short = l; used = n; map = is-map (headOf (getD s 0 0) .shape) (sym f ∙ k) }
+      pub begins-map : m ≡ true → BeginsMap s
+      begins-map k = record { size = z; used = n; map = is-map (headOf (getD s 0 0) .shape) (sym f ∙ k) }
 
-pub ruleset ways = (noted-empty, noted-long, noted-opened, opened-never, opened-other, begins-map)
+pub ruleset ways = (sized-some, noted-missized, noted-sized, noted-opened, opened-never, opened-other, begins-map)
 
 -- an outer map
-module _ (s : List ℕ) (b : BeginsMap s) (h : Head) (y : Says (getD s 0 0) h) where
+module _ (s : List ℕ) (b : BeginsMap s) (h : Head) (y : Announces (getD s 0 0) h) where
+  some : 0 < length s
+  some = sized-some (length s) (b .size)
+
   opens : (x : Span) → spanOf s 0 ≡ x → elementOf s 8 Role.outer 0 0 ≡ spanned (elementOf s 7) x 0 1
   opens x e =
       element-span s 8 Role.outer 0 0
-      (none-fault s 8 Role.outer 0 0 (record { there = b .some; used = b .used; few = lit< tt; deep = lit< tt; suits = suits-outer (b .map) }))
+      (none-fault s 8 Role.outer 0 0 (record { there = some; used = b .used; few = lit< tt; deep = lit< tt; suits = suits-outer (b .map) }))
       ∙ ap (λ (z : Span). spanned (elementOf s 7) z 0 1) e
 
   pub map-cut : (r : Noted) → r ≡ brokenAt 4 → length s - 1 < h .wide → r ≡ openedOf s
@@ -122,13 +121,13 @@ module _ (s : List ℕ) (b : BeginsMap s) (h : Head) (y : Says (getD s 0 0) h) w
   map-cut r e l = e ∙ both s (brokenAt 4) (sym (opens Cut cut)) (sym (ap (placesBy s) cut))
     where
       cut : spanOf s 0 ≡ Cut
-      cut = rw (← y .is) (simp (lt-leb (0 + 1 + h .wide) (length s) (omega (arith, b .some))))
+      cut = rw (← y .is) (simp (lt-leb (0 + 1 + h .wide) (length s) (omega (arith, some))))
 
   module _ (g : h .wide ≤ length s - 1) (x : ℕ) (f : x ≡ ifThere s 1 (h .wide) (bigAt s 1 (h .wide))) where
     holds : spanOf s 0 ≡ Holds (1 + h .wide) (h .more + x) true
     unfolding spanOf
     holds =
-        let j : leb (1 + h .wide) (length s) ≡ true = le-leb (1 + h .wide) (length s) (omega (arith, b .some)) in
+        let j : leb (1 + h .wide) (length s) ≡ true = le-leb (1 + h .wide) (length s) (omega (arith, some)) in
         let v : x ≡ bigAt s 1 (h .wide) = f ∙ simp (le-leb (h .wide) 8 (omega (arith, y .wide)), j) in
         let m : h .shape ≡ Map = ap (λ (q : Head). q .shape) (y .is) ∙ b .map in
         rw (← y .is) (simp (j, m, ← v))
@@ -137,7 +136,7 @@ module _ (s : List ℕ) (b : BeginsMap s) (h : Head) (y : Says (getD s 0 0) h) w
     unfolding itemsOf placesOf
     map-pairs r p q = both s r (p ∙ sym (opens (Holds (1 + h .wide) (h .more + x) true) holds)) (q ∙ sym (ap (placesBy s) holds))
 
-pub ruleset maps = (map-cut, map-pairs)
+pub ruleset maps = (sized-some, sized-most, map-cut, map-pairs)
 
 -- a length of at most four bytes, and what is added to it, fit
 pub length-fits : (h : Head) (x : ℕ) → h .wide ≤ 4 → h .more ≤ 31 → x < 256 ^ h .wide → Fits w64 (h .more + x)
@@ -161,10 +160,10 @@ module _ (b : ℕ) where
       go true q = true-false (sym (text-low b (ltb-true b 0xA0 q) ∙ ap isText e))
       go false q = ltb-false b 0xA0 q
 
-  pub map-says : headOf b .shape ≡ Map → b < 0x90 → Says b (row Map 0 (b - 0x80))
+  pub map-says : headOf b .shape ≡ Map → b < 0x90 → Announces b (row Map 0 (b - 0x80))
   map-says e h = says-fixmap b (map-from e) h
 
-  pub text-says : headOf b .shape ≡ Text → b < 0xC0 → Says b (row Text 0 (b - 0xA0))
+  pub text-says : headOf b .shape ≡ Text → b < 0xC0 → Announces b (row Text 0 (b - 0xA0))
   text-says e h = says-fixtext b (text-from e) h
 
 pub ruleset heads = (map-from, text-from, map-says, text-says)

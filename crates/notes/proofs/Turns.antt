@@ -1,8 +1,7 @@
 -- The pass over the outer pairs, turn by turn: the walk's answer from here is the answer, and so are the places. Each law is in the shape of
 -- what the loop asks at one of its ends. Assumes nothing.
-use mathlib.Core.Path.{_≡_, refl, sym, ap, _∙_}
-use mathlib.Core.Bool.{Bool, true, false}
-use mathlib.Core.List.{List, [], _∷_, _++_}
+use mathlib.Core.Path.{_≡_, refl, sym, _∙_}
+use mathlib.Core.{Bool.true, List.List, List._++_}
 use Prim.Native.Nat.{ℕ, zero, suc, _+_, _-_, _≤_, _<_}
 use native.Mathlib.Numerals.{sub-one}
 use native.Mathlib.Omega.{arith}
@@ -10,21 +9,18 @@ use lib.Dec.{eqb, eqb→eq}
 use lib.ListN.{length, getD, take, drop, set, length-append}
 use mir.Syntax.{w16}
 use mir.Val.{Fits}
-use Rattle.octets.proofs.Places.{here, here-lt}
-use Rattle.octets.proofs.Ranges.{ranged}
+use Rattle.octets.proofs.{Places.here, Places.here-lt, Ranges.ranged}
 use Rattle.element.specs.declared.Head.{Head}
-use Rattle.element.specs.declared.Step.{Step}
-use Rattle.element.specs.declared.Step.the-variants.{Next, Broken}
-use Rattle.element.specs.Lead.{headOf, leadBytes, rowIn}
-use Rattle.element.specs.Form.{Role, then, times, elementOf, itemsOf}
-use Rattle.element.specs.At.{bodyFrom}
+use Rattle.element.specs.declared.Step.{Step, the-variants.Next, the-variants.Broken}
+use Rattle.element.specs.{Lead.headOf, Lead.leadBytes, Lead.rowIn, code.Items.itemsOf, code.At.bodyFrom}
+use Rattle.element.specs.{Tree.Tree.leaf, Tree.Tree.array, Tree.Tree.map}
+use Rattle.element.specs.Form.{Role, then, times, elementOf}
 use Rattle.element.specs.Tree.{Tree, bytesOf, bytesOfAll, bytesOfPairs, Lawful}
-use Rattle.element.specs.Tree.Tree.{leaf, array, map}
 use Rattle.element.proofs.Found.{found}
-use Rattle.names.specs.Names.{slotOf}
-use Rattle.walk.specs.Short.{Says}
-use Rattle.message.specs.Notes.{keyAt, noteOf, onNext, noted, notesOf}
-use Rattle.notes.specs.Noted.{IsKey}
+use Rattle.names.specs.code.Slots.{slotOf}
+use Rattle.walk.specs.code.Short.{Announces}
+use Rattle.message.specs.code.Notes.{keyAt, noteOf, onNext, noted, notesOf}
+use Rattle.notes.specs.code.Noted.{IsKey}
 
 -- a tree has room for its head
 head-room : (s : List ℕ) (p : ℕ) (w : Tree) (t : List ℕ) → Lawful w → drop p s ≡ bytesOf w ++ t → (p < length s) × (bodyFrom s p ≤ p + length (bytesOf w))
@@ -121,7 +117,7 @@ module _ (s : List ℕ) (p : ℕ) where
   pub body-low : getD s p 0 < 0xC0 → p + 1 ≡ bodyFrom s p
   body-low h = omega (arith, wide-none (getD s p 0) h)
 
-  pub body-behind : (h : Head) → Says (getD s p 0) h → p + 1 + h .wide ≡ bodyFrom s p
+  pub body-behind : (h : Head) → Announces (getD s p 0) h → p + 1 + h .wide ≡ bodyFrom s p
   body-behind h y = rw (y .is)
 
 pub ruleset bodies = (body-low, body-behind)

@@ -3,21 +3,21 @@ mod pass;
 
 use element::Head;
 use element::Shape;
-use element::Step;
+use octets::refusals;
 use pass::broken;
 use pass::pass_pairs;
-ghost use mathlib.Core.Path.{_≡_};
-ghost use Prim.Native.Nat.{_^_, _≤_, _<_};
+ghost use mathlib.Core.{Path._≡_, Bool.true};
+ghost use Prim.Native.Nat.{_^_, _<_};
 ghost use lib.ListN.{length};
-ghost use Rattle.octets.specs.Number.{bigAt, ifThere};
+ghost use Rattle.octets.specs.{Number.bigAt, Number.ifThere, Size.isSize};
 ghost use Rattle.element.specs.Lead.{headOf};
-ghost use Rattle.walk.specs.Short.{Says};
-ghost use Rattle.message.specs.Cells.{commandAt};
-ghost use Rattle.notes.specs.Noted.{notedOf, openedOf, BeginsMap, IsTextAt};
+ghost use Rattle.walk.specs.code.Short.{Announces};
+ghost use Rattle.message.specs.code.Cells.{commandAt};
+ghost use Rattle.notes.specs.code.Noted.{notedOf, openedOf, BeginsMap, IsTextAt};
 
 // The walk's answer, and the place of each key's value by slot: 0 nowhere, 1 more than once. Slot 49 is for keys of no command.
 pub struct Noted {
-    pub step: Step,
+    pub step: element::Step,
     pub places: [u16; 64],
 }
 
@@ -25,29 +25,25 @@ pub struct Noted {
 pub fn outer(s: &[u8]) -> Noted
     ensures { λ r. ⌜ r ≡ notedOf (now (s .entry)) ⌝ }
 {
-    let len = s.len();
-    if len == 0 {
-        return broken(3);
-    }
-    if 4096 < len {
-        return broken(3);
+    if !octets::is_size(s.len()) {
+        return broken(refusals::SIZE);
     }
     opened(s)
 }
 
-// The same of a payload that is neither empty nor too long.
+// The same of a payload of lawful size.
 fn opened(s: &[u8]) -> Noted
-    requires { ⌜ (0 < length (now s)) × (length (now s) ≤ 4096) ⌝ }
+    requires { ⌜ isSize (length (now s)) ≡ true ⌝ }
     ensures { λ r. ⌜ r ≡ openedOf (now (s .entry)) ⌝ }
 {
     let b = s[0];
     if b == 0xC1 {
-        return broken(5);
+        return broken(refusals::NEVER_USED);
     }
     if walk::lead::is_map(b) {
         return opened_map(s);
     }
-    broken(9)
+    broken(refusals::OUTER_NOT_MAP)
 }
 
 // An outer map: how many pairs it states, and where they begin.
@@ -58,44 +54,48 @@ fn opened_map(s: &[u8]) -> Noted
     let h = map_head(s[0]);
     let wide = h.wide;
     if s.len() - 1 < wide {
-        return broken(4);
+        return broken(refusals::CUT);
     }
     let from = 1 + wide;
     let n = h.more + (length_at(s, 1, wide) as usize);
     pass_pairs(s, from, n)
 }
 
-// The command's number by the place of its text; 21 for a text that names none, 22 where there is no one text.
-pub fn command_at(s: &[u8], p: usize) -> usize
-    ensures { λ r. ⌜ r ≡ commandAt (now (s .entry)) p ⌝ }
+// Instead of a command's number: there is no one text. One less is a text that names none.
+pub const NO_TEXT: u8 = 22;
+
+// The command's number by the place of its text.
+pub fn command_at(s: &[u8], place: u16) -> u8
+    ensures { λ r. ⌜ r ≡ commandAt (now (s .entry)) place ⌝ }
 {
+    let p = place as usize;
     if p < 2 {
-        return 22;
+        return NO_TEXT;
     }
     if s.len() <= p {
-        return 22;
+        return NO_TEXT;
     }
     let b = s[p];
     if walk::lead::is_text(b) {
         return named_at(s, p);
     }
-    22
+    NO_TEXT
 }
 
 // The same of a text that stands there: its bytes, where they are all there.
-fn named_at(s: &[u8], p: usize) -> usize
+fn named_at(s: &[u8], p: usize) -> u8
     requires { ⌜ IsTextAt (now s) p ⌝ }
     ensures { λ r. ⌜ r ≡ commandAt (now (s .entry)) p ⌝ }
 {
     let h = text_head(s[p]);
     let wide = h.wide;
     if s.len() - p - 1 < wide {
-        return 22;
+        return NO_TEXT;
     }
     let from = p + 1 + wide;
     let n = h.more + (length_at(s, p + 1, wide) as usize);
     if s.len() - from < n {
-        return 22;
+        return NO_TEXT;
     }
     let to = from + n;
     names::command_of(&s[from..to])
@@ -104,7 +104,7 @@ fn named_at(s: &[u8], p: usize) -> usize
 // The head of a map's lead byte. Below 90, as in most messages, no bytes of length follow.
 fn map_head(b: u8) -> Head
     requires { ⌜ headOf b .shape ≡ Shape.Map ⌝ }
-    ensures { λ r. ⌜ Says b r ⌝ }
+    ensures { λ r. ⌜ Announces b r ⌝ }
 {
     if b < 0x90 {
         return Head {
@@ -119,7 +119,7 @@ fn map_head(b: u8) -> Head
 // The head of a text's lead byte. Below C0, as in most messages, no bytes of length follow.
 fn text_head(b: u8) -> Head
     requires { ⌜ headOf b .shape ≡ Shape.Text ⌝ }
-    ensures { λ r. ⌜ Says b r ⌝ }
+    ensures { λ r. ⌜ Announces b r ⌝ }
 {
     if b < 0xC0 {
         return Head {

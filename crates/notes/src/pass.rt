@@ -3,15 +3,13 @@ use crate::Noted;
 use element::Step;
 use walk::steps::key;
 use walk::steps::value;
-ghost use mathlib.Core.Path.{_≡_};
-ghost use mathlib.Core.Bool.{true};
+ghost use mathlib.Core.{Path._≡_, Bool.true};
 ghost use Prim.Native.Nat.{_≤_};
 ghost use lib.ListN.{length};
-ghost use Rattle.element.specs.Form.{itemsOf};
-ghost use Rattle.element.specs.At.{bodyFrom};
-ghost use Rattle.names.specs.Names.{slotOf};
-ghost use Rattle.message.specs.Notes.{keyAt, noteOf, notesOf, unnoted};
-ghost use Rattle.notes.specs.Noted.{brokenAt, IsKey};
+ghost use Rattle.element.specs.{code.Items.itemsOf, code.At.bodyFrom};
+ghost use Rattle.names.specs.code.Slots.{slotOf};
+ghost use Rattle.message.specs.code.Notes.{keyAt, noteOf, notesOf, unnoted};
+ghost use Rattle.notes.specs.code.Noted.{brokenAt, IsKey};
 
 // n pairs from a place on, behind the outer map's head.
 pub fn pass_pairs(s: &[u8], from: usize, n: usize) -> Noted

@@ -5,11 +5,10 @@ use mathlib.Core.Bool.{Bool, cond}
 use Prim.Native.Nat.{ℕ, zero, suc, _+_, _-_, _*_, _/_, _^_, _≤_, _<_}
 use native.Mathlib.Nat.{le-trans, le-of-eq, lt-of-not-le, not-le-of-lt, zero-mul, mul-assoc, mul-right-comm, mul-le-mul-right, mul-div-cancel}
 use native.Mathlib.Omega.{arith}
-use lib.Count.{trailingZeros}
+use lib.{Count.trailingZeros, IntN.ℤ}
 use lib.Ieee.{Format, prec, low, up, down, minus, size, odd, hid, top, toBits}
 use lib.Ieee.Digits.{odd-val, size-lt, size-le}
 use lib.Ieee.Fits.{two, down-pos}
-use lib.IntN.{ℤ}
 use lib.Pow.{pow-add, pow-pos, pow-mono, shl-lt}
 
 -- of a number with its leading digit in place, moved up by h, just h digits are cut

@@ -1,7 +1,6 @@
 // A float 32's bits as a float 64's.
 ghost use mathlib.Core.Path.{_≡_};
-ghost use lib.Dec.{T};
-ghost use lib.Ieee.{binary32, binary64, ofBits};
+ghost use lib.{Dec.T, Ieee.binary32, Ieee.binary64, Ieee.ofBits};
 ghost use Rattle.number.specs.Number.{finite};
 
 // The bits of the float 64 with a finite float 32's value, made in whole numbers: no floating-point instruction, so the processor's mode decides nothing.

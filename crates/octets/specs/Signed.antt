@@ -1,7 +1,6 @@
 -- Two's complement: a signed number as its w bits, and back.
 use Prim.Native.Nat.{ℕ, suc, _-_, _^_}
-use lib.Dec.{ltb}
-use lib.IntN.{ℤ, pos, negsuc}
+use lib.{Dec.ltb, IntN.ℤ, IntN.pos, IntN.negsuc}
 use Rattle.octets.specs.Choice.{either}
 
 abbrev pub bitsOf : ℕ → ℤ → ℕ

@@ -3,35 +3,23 @@
 use mathlib.Core.Path.{_≡_, refl, ap, _∙_}
 use mathlib.Core.Bool.{true, false}
 use mathlib.Core.List.{List, [], _∷_, _++_}
-use Prim.Native.Nat.{ℕ, _+_, _≤_}
-use Prim.Native.String.{String}
-use lib.Dec.{lit<}
-use lib.Ieee.{fin, ofBits}
-use lib.IntN.{pos}
-use lib.ListN.{length, take, drop}
+use Prim.Native.{Nat.ℕ, Nat._+_, Nat._≤_, String.String}
+use lib.{Dec.lit<, Ieee.fin, Ieee.ofBits, IntN.pos, ListN.length, ListN.take, ListN.drop}
 use Rattle.octets.specs.Number.{bigAt}
-use Rattle.element.specs.Lead.{leadBytes, rowIn, headOf}
-use Rattle.element.specs.Tree.{Tree, Trees, Pairs, bytesOf, countOf, depthOf, partsOf, pairsOf}
-use Rattle.element.specs.Tree.Tree.{leaf, array, map}
-use Rattle.element.specs.Tree.Trees.{none, some}
-use Rattle.element.specs.Tree.Pairs.{end, pair}
-use Rattle.element.specs.Meaning.{meaningOf, meaningOfPairs}
+use Rattle.element.specs.{Lead.leadBytes, Lead.rowIn, Lead.headOf, Tree.Tree.leaf, Tree.Tree.array, Tree.Tree.map, Tree.Trees.none, Tree.Trees.some}
+use Rattle.element.specs.{Tree.Pairs.end, Tree.Pairs.pair, Meaning.meaningOf, Meaning.meaningOfPairs}
+use Rattle.element.specs.Tree.{Tree, Trees, Pairs, bytesOf, countOf, depthOf, partCount, pairCount}
 use Rattle.names.specs.Names.{bytes, commands, placeIn, nameAt, commandOf}
-use Rattle.field.specs.Kind.{kinds, kindIn}
-use Rattle.field.specs.Judge.{octetsIn, judge}
-use Rattle.field.specs.Cell.{zero64}
+use Rattle.field.specs.{Judge.octetsIn, Judge.judge, Cell.zero64}
 use Rattle.message.specs.Fields.{lists, listIn}
-use Rattle.message.specs.Reading.{saidFrom, cellsOf, gravest, lookIn, placeOf}
-use Rattle.record.specs.declared.Body.{Body}
-use Rattle.record.specs.declared.Message.{Message}
+use Rattle.message.specs.Reading.{saidFrom, cellsOf, gravest, lookIn, placeAmong}
+use Rattle.record.specs.declared.{Body.Body, Message.Message}
 use Rattle.record.specs.Record.{bodyIn, messageOf, lentKeys, dataOf}
-use Rattle.record.specs.Reading.{Reading, readingAs, readingOf}
-use Rattle.record.specs.Meant.{Answer, answerOf, lentSize, Meant}
-use Rattle.record.specs.Places.{answerAt}
+use Rattle.record.specs.{Reading.Reading, Reading.readingAs, Reading.readingOf, code.Places.answerAt}
+use Rattle.record.specs.Meant.{Answered, answerOf, lentSize, Meant}
 use Rattle.record.proofs.Answered.{answer-meant}
 use Rattle.promises.specs.Steady.{Rearranged, Changed, Known, Carries, Alike}
-use Rattle.promises.proofs.Steady.{steady}
-use Rattle.promises.proofs.Tested.{isLawful, isPayload, says}
+use Rattle.promises.proofs.{Steady.steady, Tested.isLawful, Tested.isPayload, Tested.says}
 use Rattle.promises.proofs.Moves.{behind, turned, moved, put-in, turn, respelled}
 
 -- all that the theorem asks of two payloads
@@ -47,7 +35,7 @@ BothRead ps qs m l = (readingOf (meaningOfPairs ps) ≡ Reading.reads m l) × (r
 
 module _ (c : ℕ) (s t : List ℕ) (ps qs : Pairs) (i : Instance c s t ps qs) where
   -- the theorem's conclusion
-  pub alike : (d : List ℕ) (r q : Answer) → Meant s d r → Meant t d q → Alike r q
+  pub alike : (d : List ℕ) (r q : Answered) → Meant s d r → Meant t d q → Alike r q
   alike d r q = steady c s t ps qs d r q (i .first) (i .second) (i .known) (i .change)
 
   -- and of the answers that there are: nothing is left to assume
@@ -56,7 +44,7 @@ module _ (c : ℕ) (s t : List ℕ) (ps qs : Pairs) (i : Instance c s t ps qs) w
 
 -- what is answered to a payload that is read as a record: the record with its bytes, and the count of its elements
 pub answered : (s : List ℕ) (ps : Pairs) (S : Carries s ps) (m : Message) (l : List ℕ) → readingOf (meaningOfPairs ps) ≡ Reading.reads m l
-    → (d : List ℕ) → lentSize ≤ length d → (r : Answer) → Meant s d r → r ≡ answerOf (countOf (map (S .lead) (S .size) ps)) d (Reading.reads m l)
+    → (d : List ℕ) → lentSize ≤ length d → (r : Answered) → Meant s d r → r ≡ answerOf (countOf (map (S .lead) (S .size) ps)) d (Reading.reads m l)
 unfolding meaningOf
 answered s ps S m l e d h r M = M .whole h (map (S .lead) (S .size) ps) (S .payload) ∙ ap (answerOf (countOf (map (S .lead) (S .size) ps)) d) e
 
@@ -83,7 +71,7 @@ abbrev pub ping : Pairs
 ping = pairs ((text "command", text "ping") ∷ (text "opId", lone 1) ∷ [])
 
 pub ping-said : Carries P ping
-unfolding isPayload isLawful headOf rowIn leadBytes bytesOf countOf depthOf pairsOf bigAt
+unfolding isPayload isLawful headOf rowIn leadBytes bytesOf countOf depthOf pairCount bigAt
 ping-said = says P 0x82 [] ping tt
 
 pub ping-known : Known 9 ping
@@ -98,7 +86,7 @@ abbrev pub ping-added : Pairs
 ping-added = pairs ((text "command", text "ping") ∷ (text "opId", lone 1) ∷ (text "epEui", lone 7) ∷ [])
 
 pub added : Instance 9 P P-added ping ping-added
-unfolding isPayload isLawful headOf rowIn leadBytes bytesOf countOf depthOf pairsOf bigAt lists listIn
+unfolding isPayload isLawful headOf rowIn leadBytes bytesOf countOf depthOf pairCount bigAt lists listIn
 added = record {
   first = ping-said;
   second = says P-added 0x83 [] ping-added tt;
@@ -106,7 +94,7 @@ added = record {
   change = Changed.rearranged (put-in 9 2 (text "epEui") (lone 7) ping tt);
 }
 
-pub added-alike : (d : List ℕ) (r q : Answer) → Meant P d r → Meant P-added d q → Alike r q
+pub added-alike : (d : List ℕ) (r q : Answered) → Meant P d r → Meant P-added d q → Alike r q
 added-alike = alike 9 P P-added ping ping-added added
 
 -- the record of ping 1: an epEui is nothing to it
@@ -117,11 +105,11 @@ abbrev pub ping-1 : Message
 ping-1 = ping-under 1
 
 pub added-read : BothRead ping ping-added ping-1 []
-unfolding meaningOf rowIn leadBytes saidFrom commandOf placeIn commands lists listIn kinds kindIn judge cellsOf gravest lookIn placeOf bodyIn messageOf lentKeys nameAt dataOf readingAs readingOf
+unfolding meaningOf rowIn leadBytes saidFrom commandOf placeIn commands lists listIn judge cellsOf gravest lookIn placeAmong bodyIn messageOf lentKeys nameAt dataOf readingAs readingOf
 added-read = (refl, refl)
 
 -- it is answered with 5 and with 7 elements
-pub added-told : (d : List ℕ) → lentSize ≤ length d → (r q : Answer) → Meant P d r → Meant P-added d q
+pub added-told : (d : List ℕ) → lentSize ≤ length d → (r q : Answered) → Meant P d r → Meant P-added d q
     → (r ≡ answerOf 5 d (Reading.reads ping-1 [])) × (q ≡ answerOf 7 d (Reading.reads ping-1 []))
 unfolding countOf
 added-told d h r q M N = (answered P ping (added .first) ping-1 [] (added-read .0) d h r M, answered P-added ping-added (added .second) ping-1 [] (added-read .1) d h q N)
@@ -134,7 +122,7 @@ abbrev pub ping-widened : Pairs
 ping-widened = pairs ((text "command", text "ping") ∷ (text "opId", leaf 0xD3 [] (0 ∷ 0 ∷ 0 ∷ 0 ∷ 0 ∷ 0 ∷ 0 ∷ 1 ∷ [])) ∷ [])
 
 pub widened : Instance 9 P P-widened ping ping-widened
-unfolding isPayload isLawful headOf rowIn leadBytes bytesOf countOf depthOf pairsOf bigAt meaningOf
+unfolding isPayload isLawful headOf rowIn leadBytes bytesOf countOf depthOf pairCount bigAt meaningOf
 widened = record {
   first = ping-said;
   second = says P-widened 0x82 [] ping-widened tt;
@@ -142,15 +130,15 @@ widened = record {
   change = Changed.rearranged (respelled 9 ping ping-widened refl);
 }
 
-pub widened-alike : (d : List ℕ) (r q : Answer) → Meant P d r → Meant P-widened d q → Alike r q
+pub widened-alike : (d : List ℕ) (r q : Answered) → Meant P d r → Meant P-widened d q → Alike r q
 widened-alike = alike 9 P P-widened ping ping-widened widened
 
 pub widened-read : BothRead ping ping-widened ping-1 []
-unfolding bigAt meaningOf rowIn leadBytes saidFrom commandOf placeIn commands lists listIn kinds kindIn judge cellsOf gravest lookIn placeOf bodyIn messageOf lentKeys nameAt dataOf readingAs readingOf
+unfolding bigAt meaningOf rowIn leadBytes saidFrom commandOf placeIn commands lists listIn judge cellsOf gravest lookIn placeAmong bodyIn messageOf lentKeys nameAt dataOf readingAs readingOf
 widened-read = (refl, refl)
 
 -- both have 5 elements
-pub widened-told : (d : List ℕ) → lentSize ≤ length d → (r q : Answer) → Meant P d r → Meant P-widened d q
+pub widened-told : (d : List ℕ) → lentSize ≤ length d → (r q : Answered) → Meant P d r → Meant P-widened d q
     → (r ≡ answerOf 5 d (Reading.reads ping-1 [])) × (q ≡ answerOf 5 d (Reading.reads ping-1 []))
 unfolding countOf
 widened-told d h r q M N = (answered P ping (widened .first) ping-1 [] (widened-read .0) d h r M, answered P-widened ping-widened (widened .second) ping-1 [] (widened-read .1) d h q N)
@@ -252,7 +240,7 @@ uplink-change =
     (respelled 7 (behind 3 (text "maker") maker (turned uplink-bare end)) uplink-changed refl)))))
 
 pub changed : Instance 7 U U-changed uplink uplink-changed
-unfolding isPayload isLawful headOf rowIn leadBytes bytesOf countOf depthOf partsOf pairsOf bigAt meaningOf saidFrom commandOf placeIn commands
+unfolding isPayload isLawful headOf rowIn leadBytes bytesOf countOf depthOf partCount pairCount bigAt meaningOf saidFrom commandOf placeIn commands
 changed = record {
   first = says U 0x8C [] uplink tt;
   second = says U-changed 0xDE (0x00 ∷ 0x0C ∷ []) uplink-changed tt;
@@ -260,7 +248,7 @@ changed = record {
   change = uplink-change;
 }
 
-pub changed-alike : (d : List ℕ) (r q : Answer) → Meant U d r → Meant U-changed d q → Alike r q
+pub changed-alike : (d : List ℕ) (r q : Answered) → Meant U d r → Meant U-changed d q → Alike r q
 changed-alike = alike 7 U U-changed uplink uplink-changed changed
 
 -- the nested epEui says nothing, and the format is 0 whether given or not
@@ -292,11 +280,11 @@ abbrev pub user-data : List ℕ
 user-data = 0x0A ∷ 0x0B ∷ 0x0C ∷ []
 
 pub changed-read : BothRead uplink uplink-changed uplink-2 user-data
-unfolding bigAt ofBits meaningOf rowIn leadBytes saidFrom commandOf placeIn commands lists listIn kinds kindIn octetsIn judge cellsOf gravest lookIn placeOf bodyIn messageOf lentKeys nameAt dataOf readingAs readingOf
+unfolding bigAt ofBits meaningOf rowIn leadBytes saidFrom commandOf placeIn commands lists listIn octetsIn judge cellsOf gravest lookIn placeAmong bodyIn messageOf lentKeys nameAt dataOf readingAs readingOf
 changed-read = (refl, refl)
 
 -- 28 and 30 elements
-pub changed-told : (d : List ℕ) → lentSize ≤ length d → (r q : Answer) → Meant U d r → Meant U-changed d q
+pub changed-told : (d : List ℕ) → lentSize ≤ length d → (r q : Answered) → Meant U d r → Meant U-changed d q
     → (r ≡ answerOf 28 d (Reading.reads uplink-2 user-data)) × (q ≡ answerOf 30 d (Reading.reads uplink-2 user-data))
 unfolding countOf
 changed-told d h r q M N = (answered U uplink (changed .first) uplink-2 user-data (changed-read .0) d h r M, answered U-changed uplink-changed (changed .second) uplink-2 user-data (changed-read .1) d h q N)

@@ -4,3 +4,5 @@ pub mod Moves
 pub mod Instances
 pub mod Limits
 pub mod Needed
+pub mod Left
+pub mod RoundTrip

@@ -4,9 +4,7 @@ use mathlib.Core.Path.{_≡_, refl}
 use Prim.Native.Nat.{ℕ, zero, suc}
 use native.Mathlib.Omega.{arith}
 use lib.Dec.{T}
-use Rattle.element.specs.Tree.{Tree, Pairs}
-use Rattle.element.specs.Tree.Pairs.{end, pair}
-use Rattle.element.specs.Meaning.{keyOf, meaningOf, meaningOfPairs}
+use Rattle.element.specs.{Tree.Tree, Tree.Pairs, Tree.Pairs.end, Tree.Pairs.pair, Meaning.keyOf, Meaning.meaningOf, Meaning.meaningOfPairs}
 use Rattle.message.specs.Fields.{fieldsOf}
 use Rattle.promises.specs.Steady.{Rearranged}
 use Rattle.promises.proofs.Tested.{isStrange, strange}

@@ -6,29 +6,24 @@ use mathlib.Core.Bool.{Bool, true, false, not, _&&_}
 use mathlib.Core.List.{List, [], _∷_}
 use Prim.Native.Nat.{ℕ, zero, suc, max}
 use lib.Dec.{T, ltb, leb, eqb, eqb→eq}
-use lib.IntN.{pos}
-use lib.ListN.{length}
+use lib.{IntN.pos, ListN.length}
 use borrow.Author.Tests.{lt-ltb, ltb-true, ltb-false}
 use Rattle.octets.specs.Choice.{either}
-use Rattle.element.specs.Tree.{Tree, Pairs, countOf}
-use Rattle.element.specs.Tree.Tree.{map}
-use Rattle.element.specs.Tree.Pairs.{pair}
+use Rattle.element.specs.{Tree.Tree, Tree.Pairs, Tree.countOf, Tree.Tree.map, Tree.Pairs.pair, Meaning.Element.whole}
+use Rattle.element.specs.{Meaning.Fields.no-field, Meaning.Fields.field}
 use Rattle.element.specs.Meaning.{Element, Fields, keyOf, meaningOf, meaningOfPairs}
-use Rattle.element.specs.Meaning.Element.{whole}
-use Rattle.element.specs.Meaning.Fields.{no-field, field}
 use Rattle.octets.proofs.Ranges.{true-false, is-true, is-false, both-left, both-right}
 use Rattle.names.specs.Names.{bytes, sameBytes, nameAt}
 use Rattle.names.proofs.Same.{same-eq, eq-same}
-use Rattle.field.specs.Kind.{Kind, Value, kinds, kindIn, kindOf}
-use Rattle.field.specs.Judge.{when, judge}
+use Rattle.field.specs.{Kind.Kind, Kind.Value, Judge.when, Judge.judge}
 use Rattle.field.specs.Cell.{Said, Cell, judged, cellOf}
 use Rattle.message.specs.Fields.{Field, lists, listIn, headed, fieldsOf}
 use Rattle.message.specs.Record.{wordIn}
-use Rattle.message.specs.Reading.{again, saidFrom, saidOf, cellsOf, faultOf, graded, gravest, lookIn, crossed, commandSaid}
+use Rattle.message.specs.Reading.{again, saidFrom, saidOf, cellsOf, cellFault, graded, gravest, lookIn, crossed, commandSaid}
 use Rattle.record.specs.Record.{bytesIn, messageOf, lentKeys, dataOf}
 use Rattle.record.specs.Reading.{Reading, readingAs, readingOf}
 use Rattle.record.specs.Reading as Reading
-use Rattle.record.specs.Meant.{Answer, answerOf, Meant, lentSize}
+use Rattle.record.specs.Meant.{Answered, answerOf, Meant, lentSize}
 use Rattle.promises.specs.Steady.{Strange, Rearranged, Changed, Known, Carries, Alike}
 
 -- one pair more, for a key K
@@ -143,7 +138,7 @@ zero-word (Kind.wholes lo hi) = go (leb 0 hi)
     go false = refl
 zero-word Kind.reals = refl
 zero-word Kind.flags = refl
-zero-word Kind.places = refl
+zero-word Kind.positions = refl
 zero-word (Kind.arrays lo hi) = refl
 zero-word (Kind.texts lo hi) = refl
 zero-word Kind.versions = refl
@@ -160,7 +155,7 @@ abbrev isFormat : Field → Bool
 isFormat f = sameBytes (f .key) (bytes "format")
 
 abbrev formatFits : Field → Bool
-formatFits f = either (isFormat f) (λ _. eqb (faultOf (f .must) (cellOf (kindOf (f .kind)) (Said.once (whole (pos 0))))) 0 && eqb (faultOf (f .must) Cell.missing) 0) (λ _. true)
+formatFits f = either (isFormat f) (λ _. eqb (cellFault (f .must) (cellOf (f .kind) (Said.once (whole (pos 0))))) 0 && eqb (cellFault (f .must) Cell.missing) 0) (λ _. true)
 
 abbrev formatsFit : List Field → Bool
 formatsFit [] = true
@@ -177,23 +172,23 @@ in-fit (l ∷ ls) t h zero = both-left (formatsFit l) (allFit ls) t
 in-fit (l ∷ ls) t h (suc c) = in-fit ls (both-right (formatsFit l) (allFit ls) t) h c
 
 fields-fit : (c : ℕ) → T (formatsFit (fieldsOf c))
-unfolding lists kinds kindIn judge
+unfolding lists judge
 fields-fit c = in-fit lists tt tt c
 
 -- a format of 0 and an absent one are no fault
 zero-fault : (f : Field) → T (formatFits f) → f .key ≡ bytes "format"
-    → faultOf (f .must) (cellOf (kindOf (f .kind)) (Said.once (whole (pos 0)))) ≡ faultOf (f .must) Cell.missing
+    → cellFault (f .must) (cellOf (f .kind) (Said.once (whole (pos 0)))) ≡ cellFault (f .must) Cell.missing
 zero-fault f t h =
-    let a = faultOf (f .must) (cellOf (kindOf (f .kind)) (Said.once (whole (pos 0)))) in
-    let b = faultOf (f .must) Cell.missing in
+    let a = cellFault (f .must) (cellOf (f .kind) (Said.once (whole (pos 0)))) in
+    let b = cellFault (f .must) Cell.missing in
     let s : isFormat f ≡ true = eq-same (f .key) (bytes "format") h in
     let u : T (eqb a 0 && eqb b 0) = subst (λ (q : Bool). T (either q (λ _. eqb a 0 && eqb b 0) (λ _. true))) s t in
     eqb→eq a 0 (both-left (eqb a 0) (eqb b 0) u) ∙ sym (eqb→eq b 0 (both-right (eqb a 0) (eqb b 0) u))
 
 -- the fault of a field is the same
 alike-fault : (f : Field) → T (formatFits f) → (x y : Said) → SaidAlike (f .key) x y
-    → faultOf (f .must) (cellOf (kindOf (f .kind)) x) ≡ faultOf (f .must) (cellOf (kindOf (f .kind)) y)
-alike-fault f t x y (equal e) = ap (λ (z : Said). faultOf (f .must) (cellOf (kindOf (f .kind)) z)) e
+    → cellFault (f .must) (cellOf (f .kind) x) ≡ cellFault (f .must) (cellOf (f .kind) y)
+alike-fault f t x y (equal e) = ap (λ (z : Said). cellFault (f .must) (cellOf (f .kind) z)) e
 alike-fault f t x y (zero-none h) = zero-fault f t h
 alike-fault f t x y (none-zero h) = sym (zero-fault f t h)
 
@@ -208,18 +203,18 @@ module _ (one two : List ℕ → Said) where
   same-gravest [] t a g i = refl
   same-gravest (f ∷ l) t a g i =
       ap (λ (n : ℕ). gravest (max g (graded n i)) (suc i) l (cellsOf l one)) (alike-fault f (both-left (formatFits f) (formatsFit l) t) (one (f .key)) (two (f .key)) (a .0))
-      ∙ same-gravest l (both-right (formatFits f) (formatsFit l) t) (a .1) (max g (graded (faultOf (f .must) (cellOf (kindOf (f .kind)) (two (f .key)))) i)) (suc i)
+      ∙ same-gravest l (both-right (formatFits f) (formatsFit l) t) (a .1) (max g (graded (cellFault (f .must) (cellOf (f .kind) (two (f .key)))) i)) (suc i)
 
   -- of a key that is not format the cell is the same
   alike-cell : (f : Field) (k : List ℕ) → SaidAlike (f .key) (one (f .key)) (two (f .key)) → sameBytes (bytes "format") k ≡ false → f .key ≡ k
-      → cellOf (kindOf (f .kind)) (one (f .key)) ≡ cellOf (kindOf (f .kind)) (two (f .key))
+      → cellOf (f .kind) (one (f .key)) ≡ cellOf (f .kind) (two (f .key))
   alike-cell f k a n e = by-alike (one (f .key)) (two (f .key)) a
     where
       not-format : {A : Type 0} → f .key ≡ bytes "format" → A
       not-format h = true-false (sym (eq-same (bytes "format") k (sym h ∙ e)) ∙ n)
 
-      by-alike : (x y : Said) → SaidAlike (f .key) x y → cellOf (kindOf (f .kind)) x ≡ cellOf (kindOf (f .kind)) y
-      by-alike x y (equal p) = ap (cellOf (kindOf (f .kind))) p
+      by-alike : (x y : Said) → SaidAlike (f .key) x y → cellOf (f .kind) x ≡ cellOf (f .kind) y
+      by-alike x y (equal p) = ap (cellOf (f .kind)) p
       by-alike x y (zero-none h) = not-format h
       by-alike x y (none-zero h) = not-format h
 
@@ -227,10 +222,10 @@ module _ (one two : List ℕ → Said) where
   unfolding lookIn cellsOf
   same-look k n [] a d e p = p
   same-look k n (f ∷ l) a d e p =
-      same-look k n l (a .1) (either (sameBytes (f .key) k) (λ _. cellOf (kindOf (f .kind)) (one (f .key))) (λ _. d))
-      (either (sameBytes (f .key) k) (λ _. cellOf (kindOf (f .kind)) (two (f .key))) (λ _. e)) (go (sameBytes (f .key) k) refl)
+      same-look k n l (a .1) (either (sameBytes (f .key) k) (λ _. cellOf (f .kind) (one (f .key))) (λ _. d))
+      (either (sameBytes (f .key) k) (λ _. cellOf (f .kind) (two (f .key))) (λ _. e)) (go (sameBytes (f .key) k) refl)
     where
-      go : (b : Bool) → sameBytes (f .key) k ≡ b → either b (λ _. cellOf (kindOf (f .kind)) (one (f .key))) (λ _. d) ≡ either b (λ _. cellOf (kindOf (f .kind)) (two (f .key))) (λ _. e)
+      go : (b : Bool) → sameBytes (f .key) k ≡ b → either b (λ _. cellOf (f .kind) (one (f .key))) (λ _. d) ≡ either b (λ _. cellOf (f .kind) (two (f .key))) (λ _. e)
       go true s = alike-cell f k (a .0) n (same-eq (f .key) k s)
       go false s = p
 
@@ -238,11 +233,11 @@ module _ (one two : List ℕ → Said) where
   unfolding lookIn cellsOf
   same-word k [] a d e p = p
   same-word k (f ∷ l) a d e p =
-      same-word k l (a .1) (either (sameBytes (f .key) k) (λ _. cellOf (kindOf (f .kind)) (one (f .key))) (λ _. d))
-      (either (sameBytes (f .key) k) (λ _. cellOf (kindOf (f .kind)) (two (f .key))) (λ _. e)) (go (sameBytes (f .key) k))
+      same-word k l (a .1) (either (sameBytes (f .key) k) (λ _. cellOf (f .kind) (one (f .key))) (λ _. d))
+      (either (sameBytes (f .key) k) (λ _. cellOf (f .kind) (two (f .key))) (λ _. e)) (go (sameBytes (f .key) k))
     where
-      go : (b : Bool) → wordIn (either b (λ _. cellOf (kindOf (f .kind)) (one (f .key))) (λ _. d)) ≡ wordIn (either b (λ _. cellOf (kindOf (f .kind)) (two (f .key))) (λ _. e))
-      go true = alike-word (f .key) (one (f .key)) (two (f .key)) (a .0) (kindOf (f .kind))
+      go : (b : Bool) → wordIn (either b (λ _. cellOf (f .kind) (one (f .key))) (λ _. d)) ≡ wordIn (either b (λ _. cellOf (f .kind) (two (f .key))) (λ _. e))
+      go true = alike-word (f .key) (one (f .key)) (two (f .key)) (a .0) (f .kind)
       go false = p
 
 -- of a record that reads every key but format alike, and format's word
@@ -322,7 +317,7 @@ module _ (c : ℕ) (ps qs : Pairs) (change : Changed c ps qs) where
       let x : crossed l (lookIn Cell.missing l (cellsOf l one)) ≡ crossed l (lookIn Cell.missing l (cellsOf l two)) = rw (look (bytes "responseExp") refl, look (bytes "dlOpen") refl) in
       let m = alike-message c (lookIn Cell.missing l (cellsOf l one)) (lookIn Cell.missing l (cellsOf l two)) look (same-word one two (bytes "format") l a Cell.missing Cell.missing refl) in
       let d = alike-data c (lookIn Cell.missing l (cellsOf l one)) (lookIn Cell.missing l (cellsOf l two)) look in
-      λ i. Reading.judged (max (same-gravest one two l (fields-fit c) a 0 0 i) (x i)) (m i) (d i)
+      λ i. Reading.readingUnless (max (same-gravest one two l (fields-fit c) a 0 0 i) (x i)) (m i) (d i)
 
   -- the command is said alike, and it is the same
   same-command : commandSaid (one (bytes "command")) ≡ commandSaid (two (bytes "command"))
@@ -339,13 +334,13 @@ module _ (c : ℕ) (ps qs : Pairs) (change : Changed c ps qs) where
       rw (← same-command, k .said, k .is, lt-ltb c 21 (k .ours)) same-as
 
 -- one reading told with two counts
-alike-told : (d : List ℕ) (x y : ℕ) (a b : Reading) (r q : Answer) → r ≡ answerOf x d a → q ≡ answerOf y d b → a ≡ b → Alike r q
+alike-told : (d : List ℕ) (x y : ℕ) (a b : Reading) (r q : Answered) → r ≡ answerOf x d a → q ≡ answerOf y d b → a ≡ b → Alike r q
 alike-told d x y (Reading.refused n) b r q e f g = rw (e, f, ← g) (record { refusal = refl; place = refl; message = refl; lent = refl })
 alike-told d x y (Reading.reads m l) b r q e f g = rw (e, f, ← g) (record { refusal = refl; place = refl; message = refl; lent = refl })
 
 -- Demand 3, as one sentence: two payloads within our limits, the second a changed form of the first, a message of a command that we know, are
 -- read as the same record, with the same bytes beside it, or the same refusal
-pub steady : (c : ℕ) (s t : List ℕ) (ps qs : Pairs) (d : List ℕ) (r q : Answer) → Carries s ps → Carries t qs → Known c ps → Changed c ps qs → Meant s d r → Meant t d q → Alike r q
+pub steady : (c : ℕ) (s t : List ℕ) (ps qs : Pairs) (d : List ℕ) (r q : Answered) → Carries s ps → Carries t qs → Known c ps → Changed c ps qs → Meant s d r → Meant t d q → Alike r q
 unfolding meaningOf
 steady c s t ps qs d r q S T K C m n = go (ltb (length d) lentSize) refl
   where

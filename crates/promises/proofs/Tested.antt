@@ -1,21 +1,16 @@
 -- Trees and payloads by computed tests: what `Carries` and `Strange` ask of written-out bytes is one computation. Each test is
 -- sound by going through the tree. Assumes nothing.
-use mathlib.Core.Path.{_≡_, refl, sym}
+use mathlib.Core.{Path._≡_, Path.refl, Path.sym, List.List, List.[], List._∷_}
 use mathlib.Core.Bool.{Bool, true, false, _&&_, not}
-use mathlib.Core.List.{List, [], _∷_}
 use Prim.Native.Nat.{ℕ, _+_}
 use lib.Dec.{T, leb, eqb, eqb→eq, leb→le}
 use lib.ListN.{length}
 use Rattle.octets.specs.Number.{big}
 use Rattle.octets.proofs.Ranges.{both-left, both-right, is-true, is-false}
-use Rattle.element.specs.declared.Shape.{Shape}
-use Rattle.element.specs.declared.Shape.the-variants.{Never, Plain, Text, Array, Map}
-use Rattle.element.specs.Lead.{headOf}
-use Rattle.element.specs.Form.{isText, isMap}
-use Rattle.element.specs.Tree.{Tree, Trees, Pairs, bytesOf, countOf, depthOf, partsOf, pairsOf, Headed, IsBody, shapeOfTree, Lawful, LawfulAll, LawfulPairs, Payload}
-use Rattle.element.specs.Tree.Tree.{leaf, array, map}
-use Rattle.element.specs.Tree.Trees.{none, some}
-use Rattle.element.specs.Tree.Pairs.{end, pair}
+use Rattle.element.specs.declared.Shape.{Shape, the-variants.Never, the-variants.Plain, the-variants.Text, the-variants.Array, the-variants.Map}
+use Rattle.element.specs.{Lead.headOf, Form.isText, Form.isMap, Tree.Tree.leaf, Tree.Tree.array, Tree.Tree.map, Tree.Trees.none, Tree.Trees.some}
+use Rattle.element.specs.{Tree.Pairs.end, Tree.Pairs.pair}
+use Rattle.element.specs.Tree.{Tree, Trees, Pairs, bytesOf, countOf, depthOf, partCount, pairCount, Headed, IsBody, shapeOfTree, Lawful, LawfulAll, LawfulPairs, Payload}
 use Rattle.names.specs.Names.{sameBytes}
 use Rattle.names.proofs.Same.{same-eq}
 use Rattle.message.specs.Fields.{Field}
@@ -77,8 +72,8 @@ headed h b l n e t =
 unfoldable mutual
   pub isLawful : Tree → Bool
   isLawful (leaf b l d) = isBody (headOf b .shape) && states b l (length d)
-  isLawful (array b l ts) = isArray (headOf b .shape) && (states b l (partsOf ts) && areLawful ts)
-  isLawful (map b l ps) = isMap (headOf b .shape) && (states b l (pairsOf ps) && pairsLawful ps)
+  isLawful (array b l ts) = isArray (headOf b .shape) && (states b l (partCount ts) && areLawful ts)
+  isLawful (map b l ps) = isMap (headOf b .shape) && (states b l (pairCount ps) && pairsLawful ps)
 
   pub areLawful : Trees → Bool
   areLawful none = true
@@ -98,14 +93,14 @@ mutual
       (headed h b l (length d) refl (both-right (isBody h) n t), body-is h (both-left (isBody h) n t))
   lawful (array b l ts) t =
       let h = headOf b .shape in
-      let n = states b l (partsOf ts) in
+      let n = states b l (partCount ts) in
       let u = both-right (isArray h) (n && areLawful ts) t in
-      (headed Array b l (partsOf ts) (array-is h (both-left (isArray h) (n && areLawful ts) t)) (both-left n (areLawful ts) u), all-lawful ts (both-right n (areLawful ts) u))
+      (headed Array b l (partCount ts) (array-is h (both-left (isArray h) (n && areLawful ts) t)) (both-left n (areLawful ts) u), all-lawful ts (both-right n (areLawful ts) u))
   lawful (map b l ps) t =
       let h = headOf b .shape in
-      let n = states b l (pairsOf ps) in
+      let n = states b l (pairCount ps) in
       let u = both-right (isMap h) (n && pairsLawful ps) t in
-      (headed Map b l (pairsOf ps) (map-is h (both-left (isMap h) (n && pairsLawful ps) t)) (both-left n (pairsLawful ps) u), lawful-pairs ps (both-right n (pairsLawful ps) u))
+      (headed Map b l (pairCount ps) (map-is h (both-left (isMap h) (n && pairsLawful ps) t)) (both-left n (pairsLawful ps) u), lawful-pairs ps (both-right n (pairsLawful ps) u))
 
   pub all-lawful : (ts : Trees) → T (areLawful ts) → LawfulAll ts
   all-lawful none t = tt

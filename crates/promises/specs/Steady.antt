@@ -1,20 +1,13 @@
 -- Demand 3: what makers may change without changing a reading, on trees and without a parser.
-use mathlib.Core.Path.{_≡_}
+use mathlib.Core.{Path._≡_, Bool.false, List.List, List.[], List._∷_, Option.some}
 use Prim.Native.Nat.{ℕ, _<_}
-use mathlib.Core.Bool.{false}
-use mathlib.Core.List.{List, [], _∷_}
-use mathlib.Core.Option.{some}
 use lib.IntN.{pos}
-use Rattle.element.specs.Tree.{Tree, Pairs, Payload}
-use Rattle.element.specs.Tree.Tree.{map}
-use Rattle.element.specs.Tree.Pairs.{pair}
-use Rattle.element.specs.Meaning.{keyOf, meaningOf, meaningOfPairs}
-use Rattle.element.specs.Meaning.Element.{whole}
+use Rattle.element.specs.{Tree.Tree, Tree.Pairs, Tree.Payload, Tree.Tree.map, Tree.Pairs.pair}
+use Rattle.element.specs.{Meaning.keyOf, Meaning.meaningOf, Meaning.meaningOfPairs, Meaning.Element.whole}
 use Rattle.names.specs.Names.{bytes, sameBytes, commandOf}
 use Rattle.field.specs.Cell.{Said}
-use Rattle.message.specs.Fields.{Field, fieldsOf}
-use Rattle.message.specs.Reading.{saidOf, commandSaid}
-use Rattle.record.specs.Meant.{Answer}
+use Rattle.message.specs.{Fields.Field, Fields.fieldsOf, Reading.saidOf, Reading.commandSaid}
+use Rattle.record.specs.Meant.{Answered}
 
 -- a key that none of these fields has
 abbrev pub Strange : List Field → List ℕ → Type 0
@@ -58,7 +51,7 @@ pub record Carries (s : List ℕ) (ps : Pairs) : Type 0 where
   pub payload : Payload s (map lead size ps)
 
 -- the same record and lent bytes, or the same refusal; the count of elements may differ
-pub record Alike (r q : Answer) : Type 0 where
+pub record Alike (r q : Answered) : Type 0 where
   pub refusal : r .told .refusal ≡ q .told .refusal
   pub place : r .told .place ≡ q .told .place
   pub message : r .told .message ≡ q .told .message

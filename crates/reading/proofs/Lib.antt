@@ -1,6 +1,4 @@
-pub mod Across
-pub mod User
-pub mod Filling
 pub mod Framing
+pub mod Lending
 pub mod Answers
 pub mod Settled

@@ -1,27 +1,21 @@
 // One payload, read: the walk and the places of its values, then its command, its fields and its record.
-use builder::slots;
 use element::Step;
 use frame::Framed;
+use names::numbers::COMMANDS;
+use names::slots;
+use octets::refusals;
 use record::Body;
-use record::Message;
 use record::Told;
 ghost use mathlib.Core.Path.{_≡_};
-ghost use Prim.Native.Nat.{_-_, _/_, max};
-ghost use Rattle.record.specs.Meant.{Answer, refusedAt, Meant};
+ghost use Prim.Native.Nat.{_-_, _/_, min};
+ghost use lib.ListN.{take};
+ghost use Rattle.octets.specs.Bytes.{putAt};
+ghost use Rattle.record.specs.Meant.{Answered, refusedAt, Meant};
 ghost use Rattle.reading.specs.Framed.{MeantFramed};
-ghost use Rattle.reading.specs.Ways.{crossedBy, fieldsBy, namedBy, steppedBy};
+ghost use Rattle.reading.specs.code.Ways.{lentAfter, fieldsBy, namedBy, steppedBy};
 
 // So many lent bytes are enough for every message's.
 const LENT_SIZE: usize = 245;
-
-// How many commands there are: the number of a name that is none of theirs.
-const COMMANDS: usize = 21;
-
-// The grade of an invalid responseExp: 64 for the fault, and 63 less its place in ulData's list.
-const CROSSED: u16 = 114;
-
-// A frame's identifier and size.
-const HEAD: usize = 12;
 
 // What was read at the start of an input, and how many bytes of it: a frame's, or 0 where there is no whole frame.
 pub struct Unframed {
@@ -34,7 +28,7 @@ pub fn read(s: &[u8], d: &mut [u8]) -> Told
     ensures { λ r. ⌜ Meant (now (s .entry)) (now (d .entry)) (record { told = r; lent = now (d .exit) }) ⌝ }
 {
     if d.len() < LENT_SIZE {
-        return refused(15, 0);
+        return refused(refusals::INVALID, 0);
     }
     let noted = notes::outer(s);
     let step = noted.step;
@@ -52,16 +46,10 @@ pub fn read_framed(s: &[u8], d: &mut [u8]) -> Unframed
             told: refused(number, 0),
         },
         Framed::Whole(size) => Unframed {
-            used: HEAD + size,
+            used: frame::HEAD + size,
             told: read(frame::payload(s, size), d),
         },
     }
-}
-
-fn wide(place: u16) -> usize
-    ensures { λ r. ⌜ r ≡ place ⌝ }
-{
-    place as usize
 }
 
 // Zeros besides the number and the place.
@@ -72,7 +60,7 @@ fn refused(number: u8, place: usize) -> Told
         refusal: number,
         place,
         count: 0,
-        message: Message {
+        message: record::Message {
             op_id: 0,
             body: Body::Bare(0),
         },
@@ -81,13 +69,13 @@ fn refused(number: u8, place: usize) -> Told
 
 // By the walk's answer. 10: bytes are left over.
 fn stepped(s: &[u8], step: Step, places: &[u16; 64], d: &mut [u8]) -> Told
-    ensures { λ r. ⌜ _≡_ {A = Answer} (record { told = r; lent = now (d .exit) }) (steppedBy (now (s .entry)) (now (places .entry)) (now (d .entry)) step) ⌝ }
+    ensures { λ r. ⌜ _≡_ {A = Answered} (record { told = r; lent = now (d .exit) }) (steppedBy (now (s .entry)) (now (places .entry)) (now (d .entry)) step) ⌝ }
 {
     match step {
         Step::Broken { number, place } => refused(number, place),
         Step::Next { at, count } => {
             if at < s.len() {
-                return refused(10, at);
+                return refused(refusals::LEFT_OVER, at);
             }
             named(s, places, count, d)
         }
@@ -96,72 +84,73 @@ fn stepped(s: &[u8], step: Step, places: &[u16; 64], d: &mut [u8]) -> Told
 
 // By the command's text. 12: not among the 21. 11: no one text.
 fn named(s: &[u8], places: &[u16; 64], count: usize, d: &mut [u8]) -> Told
-    ensures { λ r. ⌜ _≡_ {A = Answer} (record { told = r; lent = now (d .exit) }) (namedBy (now (s .entry)) (now (places .entry)) count (now (d .entry))) ⌝ }
+    ensures { λ r. ⌜ _≡_ {A = Answered} (record { told = r; lent = now (d .exit) }) (namedBy (now (s .entry)) (now (places .entry)) count (now (d .entry))) ⌝ }
 {
-    let command = notes::command_at(s, wide(places[0]));
+    let command = notes::command_at(s, places[slots::COMMAND]);
     if command < COMMANDS {
-        return fields(s, places, command as u8, count, d);
+        return fields(s, places, command, count, d);
     }
     if command == COMMANDS {
-        return refused(12, 0);
+        return refused(refusals::UNKNOWN_COMMAND, 0);
     }
-    refused(11, 0)
+    refused(refusals::NO_COMMAND, 0)
 }
 
 // The fields of a command that we know: the record, if none has a fault.
 fn fields(s: &[u8], places: &[u16; 64], command: u8, count: usize, d: &mut [u8]) -> Told
-    ensures { λ r. ⌜ _≡_ {A = Answer} (record { told = r; lent = now (d .exit) }) (fieldsBy (now (s .entry)) (now (places .entry)) command count (now (d .entry))) ⌝ }
+    ensures { λ r. ⌜ _≡_ {A = Answered} (record { told = r; lent = now (d .exit) }) (fieldsBy (now (s .entry)) (now (places .entry)) command count (now (d .entry))) ⌝ }
 {
-    let mut own = [0u16; 64];
-    let mut words = [0u64; 64];
-    let mut figures = [0.0f64; 64];
-    let mut user = [0u8; 245];
-    let grade = grades::grade_command(
-        s,
-        places,
-        command,
-        &mut own,
-        &mut words,
-        &mut figures,
-        &mut user,
-    );
-    let worst = graver(
-        grade,
-        crossed(words[slots::RESPONSE_EXP], words[slots::DL_OPEN]),
-    );
-    if worst != 0 {
-        return refused(number_of(worst), 0);
+    let mut user = [0u8; LENT_SIZE];
+    let g = bodies::read(s, places, command, &mut user);
+    if g.worst != 0 {
+        return refused(number_of(g.worst), 0);
     }
-    builder::lend(s, command, &own, &words, &user, d);
+    let m = g.message;
+    let b = m.body;
+    lend(s, places[slots::MESSAGE], b, &user, d);
     Told {
         refusal: 0,
         place: 0,
         count: count,
-        message: builder::build(s, command, &own, &words, &figures),
+        message: m,
     }
 }
 
-// responseExp without dlOpen, by their words: invalid, at responseExp's place in its list.
-fn crossed(expected: u64, opened: u64) -> u16
-    ensures { λ r. ⌜ r ≡ crossedBy expected opened ⌝ }
+// The long bytes of a record, at the start of d: those of ulData were read into a room, those of statusRsp stand where its text is.
+fn lend(s: &[u8], text: u16, b: Body, user: &[u8; 245], d: &mut [u8])
+    ensures { λ _. ⌜ now (d .exit) ≡ lentAfter (now (s .entry)) text b (now (user .entry)) (now (d .entry)) ⌝ }
 {
-    if expected == 1 {
-        if opened == 1 { 0 } else { CROSSED }
-    } else {
-        0
+    match b {
+        Body::Con(_) => {}
+        Body::ConRsp(_) => {}
+        Body::StatusRsp(_) => field::text_into(s, text as usize, d),
+        Body::Det(_) => {}
+        Body::DetRsp(_) => {}
+        Body::AttPrp(_) => {}
+        Body::DetPrp(_) => {}
+        Body::UlData(x) => put_first(user, x.user_len, d),
+        Body::Bare(_) => {}
     }
 }
 
-fn graver(a: u16, b: u16) -> u16
-    ensures { λ r. ⌜ r ≡ max a b ⌝ }
+fn few(n: usize, most: usize) -> usize
+    ensures { λ r. ⌜ r ≡ min n most ⌝ }
 {
-    if a < b { b } else { a }
+    if n < most { n } else { most }
+}
+
+// The first n of the room's bytes.
+fn put_first(user: &[u8], n: u8, d: &mut [u8])
+    ensures { λ _. ⌜ now (d .exit) ≡ putAt (now (d .entry)) 0 (take n (now (user .entry))) ⌝ }
+{
+    let n = few(n as usize, user.len());
+    forms::put_run(d, 0, &user[..n]);
 }
 
 // Document 01's number of a gravest fault: 13, 14 or 15.
 fn number_of(worst: u16) -> u8
     ensures { λ r. ⌜ r ≡ 16 - worst / 64 ⌝ }
 {
-    let rank = worst / 64;
+    let rank = worst / bodies::RANK;
     if rank < 16 { 16 - (rank as u8) } else { 0 }
 }

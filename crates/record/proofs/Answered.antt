@@ -1,34 +1,25 @@
 -- What the code goes by, places in the bytes, is what `Meant` asks for: for the bytes of a lawful tree the cells are those of what the outer map says, and
 -- so is the reading. Assumes nothing.
 use mathlib.Core.Path.{_≡_, refl, sym, ap, _∙_}
-use mathlib.Core.Bool.{Bool, true, false}
-use mathlib.Core.List.{List}
-use mathlib.Core.Option.{Option, some, none}
+use mathlib.Core.{Bool.Bool, Bool.true, Bool.false, List.List, Option.Option, Option.some, Option.none}
 use Prim.Native.Nat.{ℕ, _≤_, _<_}
 use native.Mathlib.Omega.{arith}
-use lib.Dec.{eqb, ltb, lit<}
-use lib.ListN.{length, getD}
+use lib.{Dec.ltb, Dec.lit<, ListN.length, ListN.getD}
 use borrow.Author.Tests.{lt-ltb, le-ltb, eq-eqb, ltb-false}
-use Rattle.octets.specs.Choice.{either}
-use Rattle.element.specs.declared.Step.{Step}
-use Rattle.element.specs.declared.Step.the-variants.{Next, Broken}
-use Rattle.element.specs.declared.Walked.{Walked}
-use Rattle.element.specs.declared.Walked.the-variants.{Whole, Refused}
-use Rattle.element.specs.Form.{Role, elementOf, ended, walkOf, refusalOf, placeOf}
-use Rattle.element.specs.Tree.{countOf}
-use Rattle.element.specs.Meaning.{Fields, meaningOf}
-use Rattle.element.proofs.Whole.{tree-whole}
-use Rattle.element.proofs.Numbered.{break-number}
-use Rattle.names.specs.Names.{bytes, keys, nameAt, commandOf}
+use Rattle.octets.specs.{Choice.either, Size.isSize}
+use Rattle.element.specs.declared.Step.{Step, the-variants.Next, the-variants.Broken}
+use Rattle.element.specs.declared.Walked.{Walked, the-variants.Whole, the-variants.Refused}
+use Rattle.element.specs.Form.{Role, elementOf, ended, walkOf, walkRefusal, walkPlace}
+use Rattle.element.specs.{Tree.countOf, Meaning.Fields, Meaning.meaningOf}
+use Rattle.element.proofs.{Whole.tree-whole, Numbered.break-number}
+use Rattle.names.specs.{Names.bytes, Names.nameAt, Names.commandOf, code.Slots.keys}
 use Rattle.names.proofs.Places.{command-small}
-use Rattle.message.specs.Fields.{fieldsOf}
-use Rattle.message.specs.Reading.{outerOf, saidOf, commandSaid}
-use Rattle.message.specs.Cells.{placesOf, numbered}
+use Rattle.message.specs.{Fields.fieldsOf, Reading.outerOf, Reading.saidOf, Reading.commandSaid, code.Cells.placesOf, code.Cells.numbered}
 use Rattle.message.proofs.Known.{fields-known}
 use Rattle.message.proofs.Read.{Agrees, same-cells, number-said, payload-agrees}
 use Rattle.record.specs.Reading.{readingBy, readingAs, readingNamed, readingOf}
-use Rattle.record.specs.Meant.{Answer, refuses, answerOf, lentSize, Meant}
-use Rattle.record.specs.Places.{readingNumbered, readingAt, answerBy, answerAt}
+use Rattle.record.specs.Meant.{Answered, refuses, answerOf, lentSize, Meant}
+use Rattle.record.specs.code.Places.{readingNumbered, readingAt, answerBy, answerAt}
 
 module _ (s places : List ℕ) (fs : Fields) (h : Agrees s places fs) where
   numbered-reading : (n : Option (List ℕ)) → readingNumbered s places (numbered n) ≡ readingNamed n (λ k. saidOf k fs)
@@ -50,7 +41,7 @@ module _ (s places : List ℕ) (fs : Fields) (h : Agrees s places fs) where
 
 module _ (s d : List ℕ) where
   -- the walk's answer decides whether there is a reading
-  walked : Walked → Answer
+  walked : Walked → Answered
   walked (Refused n p) = refuses n p d
   walked (Whole c) = answerOf c d (readingAt s (placesOf s))
 
@@ -65,15 +56,14 @@ module _ (s d : List ℕ) where
 
   answer-walked : lentSize ≤ length d → answerAt s d ≡ walked (walkOf s)
   unfolding answerAt walkOf walked
-  answer-walked l = simp (le-ltb (length d) lentSize l) (go (eqb (length s) 0) (ltb 4096 (length s)))
+  answer-walked l = simp (le-ltb (length d) lentSize l) (go (isSize (length s)))
     where
-      go : (a b : Bool) → either a (λ _. refuses 3 0 d) (λ _. either b (λ _. refuses 3 0 d) (λ _. answerBy s d (elementOf s 8 Role.outer 0 0)))
-          ≡ walked (either a (λ _. Refused 3 0) (λ _. either b (λ _. Refused 3 0) (λ _. ended (length s) (elementOf s 8 Role.outer 0 0))))
-      go true b = refl
-      go false true = refl
-      go false false = ended-answer (elementOf s 8 Role.outer 0 0)
+      go : (a : Bool) → either a (λ _. answerBy s d (elementOf s 8 Role.outer 0 0)) (λ _. refuses 3 0 d)
+          ≡ walked (either a (λ _. ended (length s) (elementOf s 8 Role.outer 0 0)) (λ _. Refused 3 0))
+      go true = ended-answer (elementOf s 8 Role.outer 0 0)
+      go false = refl
 
-  walked-broken : (r : Walked) → (refusalOf r ≡ 0 → ⊥) → walked r ≡ refuses (refusalOf r) (placeOf r) d
+  walked-broken : (r : Walked) → (walkRefusal r ≡ 0 → ⊥) → walked r ≡ refuses (walkRefusal r) (walkPlace r) d
   unfolding walked
   walked-broken (Refused n p) b = refl
   walked-broken (Whole c) b = absurd (b refl)
@@ -90,7 +80,7 @@ module _ (s d : List ℕ) where
   }
 
   -- of a payload whose walk breaks the break is told: its number is never 0
-  pub broken-told : (r : Answer) → Meant s d r → lentSize ≤ length d → (n p : ℕ) → walkOf s ≡ Refused n p → r ≡ refuses n p d
+  pub broken-told : (r : Answered) → Meant s d r → lentSize ≤ length d → (n p : ℕ) → walkOf s ≡ Refused n p → r ≡ refuses n p d
   broken-told r m l n p e =
       let b : 0 < n = break-number s n p e in
-      m .broken l (λ z. let i : n ≡ 0 = sym (ap refusalOf e) ∙ z in omega arith) ∙ ap (λ (x : Walked). refuses (refusalOf x) (placeOf x) d) e
+      m .broken l (λ z. let i : n ≡ 0 = sym (ap walkRefusal e) ∙ z in omega arith) ∙ ap (λ (x : Walked). refuses (walkRefusal x) (walkPlace x) d) e

@@ -1,37 +1,27 @@
 -- The record of cells is the record whose parts they were shown for: each part is read back from the cell of its key, variant by variant, and so are the
 -- bytes that it has lent. `look` gives a key's cell. Assumes nothing.
 use mathlib.Core.Path.{_≡_, refl, sym, ap, subst, _∙_}
-use mathlib.Core.Bool.{not, _||_}
-use mathlib.Core.List.{List, [], _∷_}
+use mathlib.Core.{Bool.not, Bool._||_, List.List, List.[], List._∷_}
 use Prim.Native.Nat.{ℕ, _^_, _<_}
-use lib.Dec.{T}
-use lib.IntN.{ℤ}
+use lib.{Dec.T, IntN.ℤ}
 use Rattle.names.specs.Names.{bytes, commands, nameAt}
-use Rattle.field.specs.Kind.{Kind, kinds, kindIn, kindOf}
-use Rattle.field.specs.Cell.{Cell}
-use Rattle.message.specs.Fields.{Field, lists}
-use Rattle.message.specs.Record.{idIn}
-use Rattle.message.specs.Reading.{crossed}
+use Rattle.field.specs.{Kind.Kind, Cell.Cell}
+use Rattle.message.specs.{Fields.Field, Fields.lists, Record.idIn, Reading.crossed}
 use Rattle.message.proofs.KeyKinds.{kindFor}
-use Rattle.saying.specs.Says.{Part, Row, row, partIn, id, mark, string}
-use Rattle.saying.proofs.Shown.{Shown}
-use Rattle.saying.proofs.Crossed.{uncrossed}
+use Rattle.saying.specs.Says.{Part, Saying, says, partIn, id, mark, string}
+use Rattle.saying.proofs.{Shown.Shown, Crossed.uncrossed}
 use Rattle.saying.proofs.Parts.{word-back, id-back, mark-back, real-back, bytes-back, maybe-string-back, unless-zero-back, maybe-word-back, maybe-id-back, maybe-real-back, maybe-place-back}
-use Rattle.record.specs.declared.Sixteen.{Sixteen}
-use Rattle.record.specs.declared.Packet.{Packet}
-use Rattle.record.specs.declared.Body.{Body}
+use Rattle.record.specs.declared.{Sixteen.Sixteen, Packet.Packet, Body.Body}
 use Rattle.record.specs.Record.{bytesIn, fourOf, fourIn, sixteenOf, sixteenIn, packetOf, bodies, bodyIn, dataOf, lentKeys, commandIn}
-use Rattle.record.specs.Says.{sixteenBytes, sixteen, four, tested, isNamed, packetRows, bodyRows, rowsOf}
+use Rattle.record.specs.Says.{sixteenBytes, sixteen, four, tested, isNamed, packetSayings, bodySayings, sayingsOf}
 use Rattle.record.specs.Lent.{lentBy}
-use Rattle.record.proofs.Typed.{Wide, TypedBody}
-use Rattle.record.proofs.Commands.{Past, bare-past}
-use Rattle.record.proofs.Commands.Past.{past}
-use Rattle.record.proofs.Packed.{four-back, sixteen-back, sixteen-padded}
+use Rattle.record.proofs.{Typed.Wide, Typed.TypedBody, Commands.Past, Commands.bare-past, Commands.Past.past}
+use Rattle.record.proofs.{Packed.four-back, Packed.sixteen-back, Packed.sixteen-padded}
 use Rattle.record.proofs.Parts.{unsaid, untested, passed, lent-back, version-back}
 
 -- every cell is that of the rows' part
-abbrev pub AllShown : (List ℕ → Cell) → List Row → Type 0
-AllShown look rs = (k : List ℕ) → Shown (kindOf (kindFor k)) (partIn rs k) (look k)
+abbrev pub AllShown : (List ℕ → Cell) → List Saying → Type 0
+AllShown look rs = (k : List ℕ) → Shown (kindFor k) (partIn rs k) (look k)
 
 -- bytes as numbers
 four-shown : {lo hi : ℕ} {c : Cell} (x : ℕ) → x < 2 ^ 32 → Shown (Kind.arrays lo hi) (four x) c → fourIn c ≡ x
@@ -41,8 +31,8 @@ sixteen-shown : {lo hi : ℕ} {c : Cell} (x : Sixteen) → Wide x → Shown (Kin
 sixteen-shown x w s = ap sixteenOf (bytes-back s) ∙ sixteen-back x w
 
 module _ (look : List ℕ → Cell) where
-  packet-shown : (c o : Part) (p : Packet) (rs : List Row) → Wide (p .profile) → AllShown look (row "command" c ∷ (row "opId" o ∷ packetRows p rs)) → packetOf look ≡ p
-  unfolding partIn kindFor lists kinds kindIn
+  packet-shown : (c o : Part) (p : Packet) (rs : List Saying) → Wide (p .profile) → AllShown look (says "command" c ∷ (says "opId" o ∷ packetSayings p rs)) → packetOf look ≡ p
+  unfolding partIn kindFor lists
   packet-shown c o p rs w shown =
       let eq-snr = maybe-real-back (p .signal .«has_eq_snr») (p .signal .«eq_snr») (shown (bytes "eqSnr")) in
       let profile = maybe-string-back 16 (p .«profile_len») (sixteenBytes (p .profile)) (Kind.texts 1 16) refl (shown (bytes "profile")) in
@@ -63,14 +53,14 @@ module _ (look : List ℕ → Cell) where
 
   module _ (d : List ℕ) (o : ℤ) where
     abbrev BodyShown : Body → Type 0
-    BodyShown b = AllShown look (rowsOf (record { «op_id» = o; body = b }) d)
+    BodyShown b = AllShown look (sayingsOf (record { «op_id» = o; body = b }) d)
 
     pub own-id : (b : Body) → BodyShown b → idIn (look (bytes "opId")) ≡ o
-    unfolding rowsOf partIn kindFor lists kinds kindIn
+    unfolding sayingsOf partIn kindFor lists
     own-id b shown = id-back (shown (bytes "opId"))
 
     pub named : (b : Body) → BodyShown b → T (isNamed b)
-    unfolding rowsOf partIn kindFor lists kinds kindIn
+    unfolding sayingsOf partIn kindFor lists
     named b shown = passed (isNamed b) (string (nameAt commands (commandIn b))) (shown (bytes "command"))
 
     abbrev named-part : Body → Part
@@ -85,13 +75,13 @@ module _ (look : List ℕ → Cell) where
     unfolding lentKeys nameAt
     bare-key (past i) = refl
 
-    packet-back : (b : Body) (p : Packet) (rs : List Row) → bodyRows b d ≡ packetRows p rs → Wide (p .profile) → BodyShown b → packetOf look ≡ p
-    unfolding rowsOf
+    packet-back : (b : Body) (p : Packet) (rs : List Saying) → bodySayings b d ≡ packetSayings p rs → Wide (p .profile) → BodyShown b → packetOf look ≡ p
+    unfolding sayingsOf
     packet-back b p rs e w shown =
-        packet-shown (named-part b) (id o) p rs w (subst (λ (r : List Row). AllShown look (row "command" (named-part b) ∷ (row "opId" (id o) ∷ r))) e shown)
+        packet-shown (named-part b) (id o) p rs w (subst (λ (r : List Saying). AllShown look (says "command" (named-part b) ∷ (says "opId" (id o) ∷ r))) e shown)
 
     pub body-back : (b : Body) → TypedBody b → BodyShown b → bodyIn (bodies look) (commandIn b) (commandIn b) ≡ b
-    unfolding bodyIn rowsOf bodyRows partIn kindFor lists kinds kindIn
+    unfolding bodyIn sayingsOf bodySayings partIn kindFor lists
     body-back (Body.Con x) w shown = λ i. Body.Con (record {
       version = version-back (x .version) (shown (bytes "version")) i;
       «bs_eui» = word-back (shown (bytes "bsEui")) i;
@@ -152,7 +142,7 @@ module _ (look : List ℕ → Cell) where
 
     -- the lent bytes
     pub data-back : (b : Body) → BodyShown b → dataOf (commandIn b) look ≡ lentBy b d
-    unfolding dataOf lentKeys nameAt rowsOf bodyRows partIn kindFor lists kinds kindIn
+    unfolding dataOf lentKeys nameAt sayingsOf bodySayings partIn kindFor lists
     data-back (Body.Con x) shown = ap bytesIn (unsaid (shown []) refl)
     data-back (Body.ConRsp x) shown = ap bytesIn (unsaid (shown []) refl)
     data-back (Body.StatusRsp x) shown = lent-back (x .«message_len») d (Kind.texts 0 64) refl (shown (bytes "message")) .0
@@ -165,7 +155,7 @@ module _ (look : List ℕ → Cell) where
 
     -- no responseExp without dlOpen
     pub not-crossed : (l : List Field) (b : Body) → BodyShown b → crossed l look ≡ 0
-    unfolding rowsOf bodyRows partIn kindFor lists kinds kindIn
+    unfolding sayingsOf bodySayings partIn kindFor lists
     not-crossed l (Body.Con x) shown = rw (unsaid (shown (bytes "responseExp")) refl)
     not-crossed l (Body.ConRsp x) shown = rw (unsaid (shown (bytes "responseExp")) refl)
     not-crossed l (Body.StatusRsp x) shown = rw (unsaid (shown (bytes "responseExp")) refl)

@@ -6,45 +6,33 @@ use mathlib.Core.List.{List, [], _∷_, _++_}
 use mathlib.Core.Option.{some}
 use Prim.Native.Nat.{ℕ, _-_, _^_, _≤_}
 use native.Mathlib.Omega.{arith}
-use lib.Dec.{T, ltb}
-use lib.ListN.{length, take}
-use lib.Seq.{take-append-seam}
+use lib.{Dec.T, Dec.ltb, ListN.length, ListN.take, Seq.take-append-seam}
 use Rattle.octets.proofs.Ranges.{is-true}
 use Rattle.names.specs.Names.{bytes, nameAt, commands}
-use Rattle.field.specs.Kind.{Kind, kinds, kindIn, kindOf}
-use Rattle.field.specs.Cell.{Said, Cell}
-use Rattle.message.specs.Fields.{lists, listIn, fieldsOf}
-use Rattle.message.specs.Record.{here, wordIn, markIn}
-use Rattle.message.specs.Reading.{placeOf, crossed, commandSaid}
+use Rattle.field.specs.{Kind.Kind, Cell.Said, Cell.Cell, Cell.here}
+use Rattle.message.specs.{Fields.lists, Fields.listIn, Fields.fieldsOf, Record.wordIn, Record.markIn}
+use Rattle.message.specs.{Reading.placeAmong, Reading.crossed, Reading.commandSaid}
 use Rattle.message.proofs.KeyKinds.{passes, kindFor, lacks}
-use Rattle.saying.specs.Says.{Row, mark, string}
-use Rattle.saying.specs.Fits.{isSized}
-use Rattle.saying.proofs.Fair.{Fair, isKept}
-use Rattle.saying.proofs.Sorts.{sized-most}
+use Rattle.saying.specs.{Says.Saying, Says.mark, Says.string, Fits.isSized}
+use Rattle.saying.proofs.{Fair.Fair, Fair.isKept, Sorts.sized-most, Shown.AllFit, Crossed.no-cross}
 use Rattle.saying.proofs.Found.{AllSound, found, found-none, fair}
-use Rattle.saying.proofs.Shown.{AllFit}
-use Rattle.saying.proofs.Crossed.{no-cross}
 use Rattle.saying.proofs.Fitted.{neededIn, isNeeded, areKept, _and_, IsMade, AllMade, command-made, there, made-fit}
 use Rattle.saying.proofs.Made.{word-made, maybe-word-made, id-made, maybe-id-made, mark-made, real-made, maybe-real-made, maybe-place-made, unless-zero-made}
 use Rattle.record.specs.Record.{bytesIn, packetOf, bodies, bodyIn, messageOf, lentKeys, dataOf, commandIn}
-use Rattle.record.specs.Says.{tested, isNamed, packetRows, bodyRows, rowsOf}
-use Rattle.record.specs.Fits.{fits}
-use Rattle.record.specs.Lent.{lentBy, lentOf}
-use Rattle.record.proofs.Faultless.{all-fit}
-use Rattle.record.proofs.Commands.{Command, command, past-bare}
-use Rattle.record.proofs.Commands.Past.{past}
+use Rattle.record.specs.Says.{tested, isNamed, packetSayings, bodySayings, sayingsOf}
+use Rattle.record.specs.{Fits.fits, Lent.lentBy, Lent.lentOf}
+use Rattle.record.proofs.{Faultless.all-fit, Commands.Command, Commands.command, Commands.past-bare, Commands.Past.past, Listed.kept-rows}
 use Rattle.record.proofs.Commands.Command.{con, con-rsp, status-rsp, det, det-rsp, att-prp, det-prp, ul-data, bare}
-use Rattle.record.proofs.Listed.{kept-rows}
 use Rattle.record.proofs.Made.{tested-is, version-made, sixteen-made, four-made, profile-made, message-made, data-made}
 
-module _ (look : List ℕ → Cell) (held : (u : List ℕ) → T (isKept (kindOf (kindFor u))) → Fair (kindOf (kindFor u)) (look u)) where
+module _ (look : List ℕ → Cell) (held : (u : List ℕ) → T (isKept (kindFor u)) → Fair (kindFor u) (look u)) where
   -- the parts of a packet, and what comes behind them
-  abbrev MadeThen : List Row → Type 0 → Type 0
+  abbrev MadeThen : List Saying → Type 0 → Type 0
   MadeThen [] B = B
   MadeThen (r ∷ rs) B = IsMade look (r .key) (r .part) × MadeThen rs B
 
-  packet-made : {B : Type 0} → B → MadeThen (packetRows (packetOf look) []) B
-  unfolding kindFor lists kinds kindIn isNeeded
+  packet-made : {B : Type 0} → B → MadeThen (packetSayings (packetOf look) []) B
+  unfolding kindFor lists isNeeded
   packet-made others =
       word-made true (2 ^ 64 - 1) (held (bytes "epEui") tt) and
       word-made true (2 ^ 64 - 1) (held (bytes "rxTime") tt) and
@@ -60,13 +48,13 @@ module _ (look : List ℕ → Cell) (held : (u : List ℕ) → T (isKept (kindOf
   uncrossed = not (markIn (look (bytes "responseExp"))) || markIn (look (bytes "dlOpen"))
 
   answer-made : T uncrossed → IsMade look (bytes "responseExp") (tested uncrossed (mark (markIn (look (bytes "responseExp")))))
-  unfolding kindFor lists kinds kindIn isNeeded
+  unfolding kindFor lists isNeeded
   answer-made t = rw (tested-is uncrossed (mark (markIn (look (bytes "responseExp")))) t) (mark-made true (held (bytes "responseExp") tt))
 
   module _ (t : List ℕ) (opens : T uncrossed) where
     body-made : {c : ℕ} → Command c → ((u : List ℕ) → T (neededIn (fieldsOf c) u) → T (here (look u)))
-        → AllMade look (bodyRows (bodyIn (bodies look) c c) (dataOf c look ++ t))
-    unfolding bodyIn bodyRows dataOf lentKeys nameAt kindFor lists listIn kinds kindIn isNeeded
+        → AllMade look (bodySayings (bodyIn (bodies look) c c) (dataOf c look ++ t))
+    unfolding bodyIn bodySayings dataOf lentKeys nameAt kindFor lists listIn isNeeded
     body-made con there =
         version-made true (held (bytes "version") tt) and
         word-made true (2 ^ 64 - 1) (held (bytes "bsEui") tt) and
@@ -137,12 +125,12 @@ module _ (said : List ℕ → Said) (c : ℕ) (s : AllSound said (fieldsOf c)) (
   own u = found said c u
 
   module _ (n : List ℕ) (named : commandSaid (said (bytes "command")) ≡ some n) (t : List ℕ) where
-    all-made : AllMade own (rowsOf (messageOf c own) (dataOf c own ++ t))
-    unfolding messageOf rowsOf kindFor lists kinds kindIn isNeeded
+    all-made : AllMade own (sayingsOf (messageOf c own) (dataOf c own ++ t))
+    unfolding messageOf sayingsOf kindFor lists isNeeded
     all-made =
         let b = bodyIn (bodies own) c c in
         let name = string (nameAt commands (commandIn b)) in
-        let opens = no-cross (markIn (own (bytes "responseExp"))) (markIn (own (bytes "dlOpen"))) (placeOf (fieldsOf c) (bytes "responseExp")) x in
+        let opens = no-cross (markIn (own (bytes "responseExp"))) (markIn (own (bytes "dlOpen"))) (placeAmong (fieldsOf c) (bytes "responseExp")) x in
         rw (tested-is (isNamed b) name (same-command own (command c) .1 less)) (command-made said c s n (nameAt commands (commandIn b)) named) and
         id-made true (2 ^ 63) (2 ^ 63 - 1) (fair said c s (bytes "opId") tt) and
         body-made own (fair said c s) t opens (command c) (there said c s)
@@ -153,8 +141,8 @@ module _ (said : List ℕ → Said) (c : ℕ) (s : AllSound said (fieldsOf c)) (
         let m = messageOf c own in
         let d = dataOf c own ++ t in
         let e = same-command own (command c) .0 in
-        let k = subst (λ (i : ℕ). T (areKept (rowsOf m d) (fieldsOf i))) e (kept-rows m d (same-command own (command c) .1 less)) in
-        all-fit m d (subst (λ (i : ℕ). AllFit (rowsOf m d) (fieldsOf i)) (sym e) (made-fit said c s (rowsOf m d) all-made k))
+        let k = subst (λ (i : ℕ). T (areKept (sayingsOf m d) (fieldsOf i))) e (kept-rows m d (same-command own (command c) .1 less)) in
+        all-fit m d (subst (λ (i : ℕ). AllFit (sayingsOf m d) (fieldsOf i)) (sym e) (made-fit said c s (sayingsOf m d) all-made k))
 
 -- its bytes: the first of those lent, and few
 abbrev Lends : List ℕ → ℕ → List ℕ → Type 0
@@ -171,9 +159,9 @@ array-lent : (t : List ℕ) {lo hi : ℕ} {c : Cell} → Fair (Kind.arrays lo hi
 array-lent t (Fair.left k) h = (refl, omega arith)
 array-lent t (Fair.array lo hi d w b) h = few-lent t d lo hi w h
 
-module _ (t : List ℕ) (look : List ℕ → Cell) (held : (u : List ℕ) → T (isKept (kindOf (kindFor u))) → Fair (kindOf (kindFor u)) (look u)) (empty : look [] ≡ Cell.missing) where
+module _ (t : List ℕ) (look : List ℕ → Cell) (held : (u : List ℕ) → T (isKept (kindFor u)) → Fair (kindFor u) (look u)) (empty : look [] ≡ Cell.missing) where
   lends : {c : ℕ} → Command c → (lentBy (bodyIn (bodies look) c c) (dataOf c look ++ t) ≡ dataOf c look) × (length (dataOf c look) ≤ 245)
-  unfolding bodyIn dataOf lentKeys nameAt kindFor lists kinds kindIn
+  unfolding bodyIn dataOf lentKeys nameAt kindFor lists
   lends con = rw empty (refl, omega arith)
   lends con-rsp = rw empty (refl, omega arith)
   lends status-rsp = text-lent t (held (bytes "message") tt) (omega arith)

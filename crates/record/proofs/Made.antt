@@ -1,29 +1,21 @@
 -- What each part that this record has beside saying's is, made from a cell of its kind without a fault: what it says is in range, and nothing stands
 -- beside that. Lent bytes are made only from a value: their fields are mandatory. Assumes nothing.
-use mathlib.Core.Path.{_≡_, refl, sym}
-use mathlib.Core.Bool.{Bool, true, _&&_}
-use mathlib.Core.List.{List, _++_}
+use mathlib.Core.{Path._≡_, Path.refl, Path.sym, Bool.Bool, Bool.true, Bool._&&_, List.List, List._++_}
 use Prim.Native.Nat.{ℕ, _-_, _≤_}
 use native.Mathlib.Omega.{arith}
-use lib.Dec.{T, eqb, leb}
+use lib.{Dec.T, Dec.eqb, Dec.leb, Pow.areBytes, Seq.length-take-le, Seq.take-append-seam}
 use lib.Ieee.Fits.{and-i}
 use lib.ListN.{length, take, drop, replicate, length-append}
-use lib.Pow.{areBytes}
-use lib.Seq.{length-take-le, take-append-seam}
 use borrow.Author.Tests.{le-leb, ne-eqb}
-use Rattle.octets.specs.Number.{bigAt}
-use Rattle.octets.specs.Bytes.{bigBytes}
+use Rattle.octets.specs.{Number.bigAt, Bytes.bigBytes}
 use Rattle.octets.proofs.Ranges.{is-true, true-is, are-bytes}
 use Rattle.names.proofs.Same.{same-refl}
-use Rattle.field.specs.Kind.{Kind, Value}
-use Rattle.field.specs.Cell.{Cell}
-use Rattle.message.specs.Record.{here, wordIn}
-use Rattle.saying.specs.Says.{Part, zeros, tidy, maybeString}
+use Rattle.field.specs.{Kind.Kind, Kind.Value, Cell.Cell, Cell.here}
+use Rattle.message.specs.Record.{wordIn}
+use Rattle.saying.specs.Says.{Part, areNulls, tidy, stringIf}
 use Rattle.saying.specs.Says as Says
 use Rattle.saying.specs.Fits.{isSized, within}
-use Rattle.saying.proofs.Fair.{Fair}
-use Rattle.saying.proofs.Sorts.{sized-least, sized-most}
-use Rattle.saying.proofs.Made.{isMade}
+use Rattle.saying.proofs.{Fair.Fair, Sorts.sized-least, Sorts.sized-most, Made.isMade}
 use Rattle.record.specs.declared.Sixteen.{Sixteen}
 use Rattle.record.specs.Record.{bytesIn, fourIn, sixteenIn, maybeVersion}
 use Rattle.record.specs.Says.{sixteenBytes, sixteen, four, tested, lent}
@@ -36,8 +28,8 @@ tested-is b p t = rw (← is-true b t)
 in-range : (m n : ℕ) → m ≤ n → T (leb m n)
 in-range m n h = true-is (leb m n) (sym (le-leb m n h))
 
-zeros-same : (n : ℕ) → T (zeros n (replicate n 0))
-zeros-same n = true-is (zeros n (replicate n 0)) (sym (same-refl (replicate n 0)))
+zeros-same : (n : ℕ) → T (areNulls n (replicate n 0))
+zeros-same n = true-is (areNulls n (replicate n 0)) (sym (same-refl (replicate n 0)))
 
 long : (n : ℕ) (d : List ℕ) → T (isSized n n d) → length d ≡ n
 long n d t = omega (arith, sized-least n n d t, sized-most n n d t)
@@ -47,7 +39,7 @@ unfolding sixteenBytes bigBytes
 sixteen-long x = refl
 
 module _ (must : Bool) where
-  pub version-made : {c : Cell} → Fair Kind.versions c → T (isMade must Kind.versions c (Says.maybeVersion (maybeVersion c)))
+  pub version-made : {c : Cell} → Fair Kind.versions c → T (isMade must Kind.versions c (Says.versionIf (maybeVersion c)))
   unfolding within
   version-made (Fair.left k) = tt
   version-made (Fair.release a b d p q r) = and-i (leb a 65535) (leb b 65535 && leb d 65535) p (and-i (leb b 65535) (leb d 65535) q r)
@@ -61,7 +53,7 @@ module _ (must : Bool) where
   unfolding within bigAt bigBytes
   no-four = tt
 
-  no-profile : T (isMade must (Kind.texts 1 16) Cell.missing (maybeString 16 0 (sixteenBytes (sixteenIn Cell.missing))))
+  no-profile : T (isMade must (Kind.texts 1 16) Cell.missing (stringIf 16 0 (sixteenBytes (sixteenIn Cell.missing))))
   unfolding bigAt bigBytes sixteenBytes
   no-profile = tt
 
@@ -76,7 +68,7 @@ module _ (must : Bool) where
   four-made (Fair.array lo hi d t b) = rw (four-again d (are-bytes d b) (long 4 d t)) (and-i (isSized 4 4 d) (areBytes d) t b)
 
   -- a text is not asked to be of bytes: what is written for its numbers is as long, and zeros behind
-  pub profile-made : {c : Cell} → Fair (Kind.texts 1 16) c → T (isMade must (Kind.texts 1 16) c (maybeString 16 (wordIn c) (sixteenBytes (sixteenIn c))))
+  pub profile-made : {c : Cell} → Fair (Kind.texts 1 16) c → T (isMade must (Kind.texts 1 16) c (stringIf 16 (wordIn c) (sixteenBytes (sixteenIn c))))
   unfolding within
   profile-made (Fair.left k) = no-profile
   profile-made (Fair.letters lo hi d t) =
@@ -87,8 +79,8 @@ module _ (must : Bool) where
       let same : length (take (length d) (sixteenBytes x)) ≡ length d = length-take-le (length d) (sixteenBytes x) (omega arith) in
       rw (ne-eqb (length d) 0 some-there)
       (and-i (tidy 16 (length d) (sixteenBytes x)) (isSized 1 16 (take (length d) (sixteenBytes x)))
-      (and-i (eqb (length (sixteenBytes x)) 16) (leb (length d) 16 && zeros (16 - length d) (drop (length d) (sixteenBytes x))) (rw n tt)
-      (and-i (leb (length d) 16) (zeros (16 - length d) (drop (length d) (sixteenBytes x))) (in-range (length d) 16 most)
+      (and-i (eqb (length (sixteenBytes x)) 16) (leb (length d) 16 && areNulls (16 - length d) (drop (length d) (sixteenBytes x))) (rw n tt)
+      (and-i (leb (length d) 16) (areNulls (16 - length d) (drop (length d) (sixteenBytes x))) (in-range (length d) 16 most)
       (rw (sixteen-behind d most) (zeros-same (16 - length d)))))
       (rw same t))
 

@@ -7,17 +7,13 @@ use Prim.Native.Nat.{ℕ, zero, suc, _+_, _-_, _*_, _/_, _%_, _^_, _≤_, _<_}
 use native.Mathlib.Nat.{pow-succ', add-zero, add-suc, div-one, div-div-eq-div-mul}
 use native.Mathlib.Numerals.{add-one}
 use native.Mathlib.Omega.{arith}
-use lib.Arith.{digits-div, digits-mod}
-use lib.Dec.{leb, lit<}
+use lib.{Arith.digits-div, Arith.digits-mod, Dec.leb, Dec.lit<}
 use borrow.Author.Tests.{leb-true, leb-false}
 use lib.ListN.{length, getD, drop, replicate, take-append-drop, length-drop, replicate-append-replicate, List·getD-eq-default}
 use lib.Seq.{take-all, drop-length, drop-append-le, drop-append-add}
-use Rattle.octets.specs.Number.{bigAt}
-use Rattle.octets.specs.Bytes.{IsBytes, bigBytes}
-use Rattle.octets.proofs.Places.{same-big}
-use Rattle.octets.proofs.Digits.{length-big, big-here, big-again}
+use Rattle.octets.specs.{Number.bigAt, Bytes.IsBytes, Bytes.bigBytes}
+use Rattle.octets.proofs.{Places.same-big, Digits.length-big, Digits.big-here, Digits.big-again}
 use Rattle.field.specs.Cell.{Cell}
-use Rattle.message.specs.Record.{stringIn}
 use Rattle.record.specs.declared.Sixteen.{Sixteen}
 use Rattle.record.specs.Record.{bytesIn, fourOf, sixteenOf, sixteenIn}
 use Rattle.record.specs.Says.{sixteenBytes}
@@ -48,7 +44,7 @@ sixteen-back x w = λ i. record {
   low = big-here 8 (x .low) (w .low) (sixteenBytes x) 8 [] (sym (append-nil (bigBytes 8 (x .low)))) i;
 }
 
-pub sixteen-padded : (c : Cell) → sixteenOf (stringIn 16 c) ≡ sixteenIn c
+pub sixteen-padded : (c : Cell) → sixteenOf (bytesIn c ++ replicate (16 - length (bytesIn c)) 0) ≡ sixteenIn c
 sixteen-padded c =
     let behind = 16 - length (bytesIn c) in
     λ i. record { high = padded-big (bytesIn c) behind 0 8 i; low = padded-big (bytesIn c) behind 8 8 i }

@@ -2,26 +2,19 @@
 -- that must pass a test besides. Assumes nothing.
 use mathlib.Core.Path.{_≡_, refl, sym, _∙_}
 use mathlib.Core.Bool.{Bool, true, false, _&&_}
-use mathlib.Core.List.{List}
-use mathlib.Core.Option.{none}
+use mathlib.Core.{List.List, Option.none}
 use Prim.Native.Nat.{ℕ}
 use lib.Dec.{T, eqb, leb, eqb→eq, leb→le}
-use lib.ListN.{length, take}
-use lib.Seq.{length-take-le}
+use lib.{ListN.length, ListN.take, Seq.length-take-le}
 use Rattle.octets.proofs.Ranges.{both-left, both-right}
-use Rattle.field.specs.Kind.{Kind, Value}
-use Rattle.field.specs.Cell.{Cell}
+use Rattle.field.specs.{Kind.Kind, Kind.Value, Cell.Cell}
 use Rattle.message.specs.Record.{wordIn}
 use Rattle.message.specs.declared.MaybeVersion.{MaybeVersion}
 use Rattle.saying.specs.Says.{Part, string, releaseValue, noRelease}
 use Rattle.saying.specs.Says as Says
-use Rattle.saying.proofs.Shown.{Shown, keptBy}
-use Rattle.saying.proofs.Shown.Shown.{spoken, silent}
-use Rattle.saying.proofs.Rows.{some-none}
-use Rattle.saying.proofs.Parts.{always-back, Maybe, maybe-back}
-use Rattle.saying.proofs.Parts.Maybe.{there, absent}
-use Rattle.record.specs.Record.{bytesIn, maybeVersion}
-use Rattle.record.specs.Says.{tested, lent}
+use Rattle.saying.proofs.{Shown.Shown, Shown.keptBy, Shown.Shown.spoken, Shown.Shown.silent, Rows.some-none}
+use Rattle.saying.proofs.{Parts.always-back, Parts.Maybe, Parts.maybe-back, Parts.Maybe.there, Parts.Maybe.absent}
+use Rattle.record.specs.{Record.bytesIn, Record.maybeVersion, Says.tested, Says.lent}
 
 -- a part that says nothing
 pub unsaid : {k : Kind} {p : Part} {c : Cell} → Shown k p c → p .said ≡ none → c ≡ Cell.missing
@@ -55,7 +48,7 @@ no-release m e t =
       patch = sym (eqb→eq (m .patch) 0 (both-right (eqb (m .minor) 0) (eqb (m .patch) 0) r)) i;
     }
 
-pub version-back : (m : MaybeVersion) {c : Cell} → Shown Kind.versions (Says.maybeVersion m) c → maybeVersion c ≡ m
+pub version-back : (m : MaybeVersion) {c : Cell} → Shown Kind.versions (Says.versionIf m) c → maybeVersion c ≡ m
 version-back m {c} s = go (m .here) refl (maybe-back Kind.versions (releaseValue m) (noRelease m) (m .here) c s)
   where
     go : (h : Bool) → m .here ≡ h → {c : Cell} → Maybe Kind.versions (releaseValue m) (noRelease m) h c → maybeVersion c ≡ m

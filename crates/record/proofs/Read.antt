@@ -1,15 +1,13 @@
 -- Whatever is read is a record that fits, with the bytes that were read at the start of those lent, so a record that was read is never refused for
 -- writing. A reading that succeeds found no fault, so its record is one of cells without a fault (proofs/Built). Assumes nothing.
 use mathlib.Core.Path.{_≡_, refl, sym, ap, _∙_}
-use mathlib.Core.Bool.{Bool, true, false}
+use mathlib.Core.{Bool.Bool, Bool.true, Bool.false, Option.Option, Option.some, Option.none}
 use mathlib.Core.List.{List, [], _++_, append-nil}
-use mathlib.Core.Option.{Option, some, none}
 use Prim.Native.Nat.{ℕ, _+_, _-_, _/_, _≤_, max}
 use native.Mathlib.Omega.{arith}
 use lib.Dec.{T, eqb, ltb, eqb→eq}
 use lib.ListN.{length, take, drop, take-append-drop}
-use Rattle.octets.specs.Choice.{either}
-use Rattle.octets.specs.Bytes.{putAt}
+use Rattle.octets.specs.{Choice.either, Bytes.putAt}
 use Rattle.octets.proofs.Writing.{put-in}
 use Rattle.element.specs.Meaning.{Fields}
 use Rattle.names.specs.Names.{bytes, commandOf}
@@ -18,11 +16,8 @@ use Rattle.message.specs.Fields.{fieldsOf}
 use Rattle.message.specs.Reading.{saidOf, cellsOf, gravest, crossed, commandSaid}
 use Rattle.saying.proofs.Found.{AllSound, all-sound, found}
 use Rattle.record.specs.declared.Message.{Message}
-use Rattle.record.specs.Record.{messageOf, dataOf}
-use Rattle.record.specs.Fits.{fits}
-use Rattle.record.specs.Reading.{Reading, judged, readingAs, readingNamed, readingOf}
-use Rattle.record.specs.Meant.{lentSize}
-use Rattle.record.specs.Lent.{lentOf}
+use Rattle.record.specs.{Record.messageOf, Record.dataOf, Fits.fits, Meant.lentSize, Lent.lentOf}
+use Rattle.record.specs.Reading.{Reading, readingUnless, readingAs, readingNamed, readingOf}
 use Rattle.record.proofs.Built.{command-fits, command-lends}
 
 refused-reads : {A : Type 0} {n : ℕ} {m : Message} {e : List ℕ} → Reading.refused n ≡ Reading.reads m e → A
@@ -43,7 +38,7 @@ module _ (said : List ℕ → Said) (n : List ℕ) (named : commandSaid (said (b
   abbrev grade : ℕ → ℕ
   grade c = max (gravest 0 0 (fieldsOf c) (cellsOf (fieldsOf c) said)) (crossed (fieldsOf c) (found said c))
 
-  judged-came : (c g : ℕ) → T (ltb c 21) → grade c ≡ g → judged g (messageOf c (found said c)) (dataOf c (found said c)) ≡ Reading.reads m e → Came said m e
+  judged-came : (c g : ℕ) → T (ltb c 21) → grade c ≡ g → readingUnless g (messageOf c (found said c)) (dataOf c (found said c)) ≡ Reading.reads m e → Came said m e
   judged-came c g h q r = go (eqb g 0) refl r
     where
       go : (b : Bool) → eqb g 0 ≡ b

@@ -1,9 +1,7 @@
 -- No reading is refused with the number 0: the gravest fault is below 256, so 16 less its 64th part is at least 13. By induction over the command's
 -- list. Assumes nothing.
-use mathlib.Core.Path.{_≡_}
+use mathlib.Core.{Path._≡_, List.List, List.[], List._∷_, Option.Option, Option.some, Option.none}
 use mathlib.Core.Bool.{Bool, true, false, _&&_, not}
-use mathlib.Core.List.{List, [], _∷_}
-use mathlib.Core.Option.{Option, some, none}
 use Prim.Native.Nat.{ℕ, suc, _-_, _/_, _≤_, _<_, max}
 use native.Mathlib.Omega.{arith}
 use lib.Dec.{eqb, ltb}
@@ -11,15 +9,14 @@ use Rattle.octets.specs.Choice.{either}
 use Rattle.element.specs.Meaning.{Fields}
 use Rattle.names.specs.Names.{bytes, commandOf}
 use Rattle.field.specs.Cell.{Said, Cell}
-use Rattle.message.specs.Fields.{Field, fieldsOf}
-use Rattle.message.specs.Record.{markIn}
-use Rattle.message.specs.Reading.{saidOf, cellsOf, faultOf, graded, gravest, lookIn, placeOf, crossed, commandSaid}
+use Rattle.message.specs.{Fields.Field, Fields.fieldsOf, Record.markIn}
+use Rattle.message.specs.Reading.{saidOf, cellsOf, cellFault, graded, gravest, lookIn, placeAmong, crossed, commandSaid}
 use Rattle.record.specs.declared.Message.{Message}
 use Rattle.record.specs.Record.{messageOf, dataOf}
-use Rattle.record.specs.Reading.{Reading, judged, readingBy, readingAs, readingNamed, readingOf}
+use Rattle.record.specs.Reading.{Reading, readingUnless, readingBy, readingAs, readingNamed, readingOf}
 
 -- the gravest fault
-graded-most : (must : Bool) (c : Cell) (i : ℕ) → graded (faultOf must c) i ≤ 255
+graded-most : (must : Bool) (c : Cell) (i : ℕ) → graded (cellFault must c) i ≤ 255
 graded-most must (Cell.good v) i = omega arith
 graded-most must Cell.bad i = omega arith
 graded-most must Cell.double i = omega arith
@@ -31,7 +28,7 @@ unfolding gravest
 gravest-most [] cs g i h = h
 gravest-most (f ∷ l) [] g i h = h
 gravest-most (f ∷ l) (c ∷ cs) g i h =
-    gravest-most l cs (max g (graded (faultOf (f .must) c) i)) (suc i) (omega (arith, graded-most (f .must) c i))
+    gravest-most l cs (max g (graded (cellFault (f .must) c) i)) (suc i) (omega (arith, graded-most (f .must) c i))
 
 crossed-most : (b : Bool) (i : ℕ) → either b (λ _. graded 1 i) (λ _. 0) ≤ 255
 crossed-most true i = omega arith
@@ -43,7 +40,7 @@ reads-refused e = let z : _≡_ {A = ℕ} 0 1 = cc in absurd (omega arith)
 is-refused : {n k : ℕ} → Reading.refused n ≡ Reading.refused k → n ≡ k
 is-refused e = cc
 
-judged-number : (g : ℕ) (m : Message) (d : List ℕ) (n : ℕ) → g ≤ 255 → judged g m d ≡ Reading.refused n → 0 < n
+judged-number : (g : ℕ) (m : Message) (d : List ℕ) (n : ℕ) → g ≤ 255 → readingUnless g m d ≡ Reading.refused n → 0 < n
 judged-number g m d n h e = go (eqb g 0) e
   where
     go : (b : Bool) → either b (λ _. Reading.reads m d) (λ _. Reading.refused (16 - g / 64)) ≡ Reading.refused n → 0 < n
@@ -53,7 +50,7 @@ judged-number g m d n h e = go (eqb g 0) e
 by-number : (c : ℕ) (l : List Field) (cs : List Cell) (n : ℕ) → readingBy c l cs ≡ Reading.refused n → 0 < n
 by-number c l cs n e =
     let look = lookIn Cell.missing l cs in
-    let x = crossed-most (markIn (look (bytes "responseExp")) && not (markIn (look (bytes "dlOpen")))) (placeOf l (bytes "responseExp")) in
+    let x = crossed-most (markIn (look (bytes "responseExp")) && not (markIn (look (bytes "dlOpen")))) (placeAmong l (bytes "responseExp")) in
     judged-number (max (gravest 0 0 l cs) (crossed l look)) (messageOf c look) (dataOf c look) n (omega (arith, gravest-most l cs 0 0 (omega arith))) e
 
 named-number : (o : Option (List ℕ)) (said : List ℕ → Said) (n : ℕ) → readingNamed o said ≡ Reading.refused n → 0 < n

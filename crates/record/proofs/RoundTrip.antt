@@ -1,9 +1,7 @@
 -- What is written reads back as the same record, with the bytes that it has lent. Reading finds the cell of each part (saying's law over rows), and the
 -- record of these cells is the record (proofs/Bodies). Assumes nothing.
 use mathlib.Core.Path.{_≡_, refl, ap, _∙_}
-use mathlib.Core.Bool.{true}
-use mathlib.Core.List.{List}
-use mathlib.Core.Option.{some}
+use mathlib.Core.{Bool.true, List.List, Option.some}
 use Prim.Native.Nat.{ℕ, _<_}
 use lib.Dec.{T, ltb, leb, ltb→lt, lit<}
 use Rattle.octets.proofs.Ranges.{both-right}
@@ -12,28 +10,16 @@ use Rattle.element.specs.Meaning.{Element, meaningOf, meaningOfPairs}
 use Rattle.shortest.proofs.Many.{map-means}
 use Rattle.names.specs.Names.{bytes, commands, nameAt}
 use Rattle.names.proofs.Places.{command-name}
-use Rattle.field.specs.Kind.{Value}
-use Rattle.field.specs.Cell.{Said, Cell}
+use Rattle.field.specs.{Kind.Value, Cell.Said, Cell.Cell}
 use Rattle.message.specs.Fields.{Field, fieldsOf}
 use Rattle.message.specs.Reading.{outerOf, saidOf, cellsOf, lookIn, commandSaid}
 use Rattle.message.proofs.KeyKinds.{kinds-of, keys-apart}
-use Rattle.saying.specs.Says.{partIn}
-use Rattle.saying.specs.Written.{pairsFrom}
-use Rattle.saying.proofs.Sayings.{cellsBy, cells-said}
-use Rattle.saying.proofs.Named.{command-said}
-use Rattle.saying.proofs.Shown.{shown-in, faultless}
-use Rattle.saying.proofs.Words.{row-back}
-use Rattle.record.specs.declared.Body.{Body}
-use Rattle.record.specs.declared.Message.{Message}
-use Rattle.record.specs.Record.{messageOf, commandIn}
-use Rattle.record.specs.Says.{isNamed, rowsOf, saysOf}
-use Rattle.record.specs.Fits.{fits}
-use Rattle.record.specs.Written.{treeFor}
+use Rattle.saying.specs.{Says.partIn, Written.pairsFrom}
+use Rattle.saying.proofs.{Sayings.cellsBy, Sayings.cells-said, Named.command-said, Shown.shown-in, Shown.faultless, Words.row-back}
+use Rattle.record.specs.declared.{Body.Body, Message.Message}
+use Rattle.record.specs.{Record.messageOf, Record.commandIn, Says.isNamed, Says.sayingsOf, Says.saysOf, Fits.fits, Written.treeFor, Lent.lentOf}
 use Rattle.record.specs.Reading.{Reading, readingBy, readingAs, readingNamed, readingOf}
-use Rattle.record.specs.Lent.{lentOf}
-use Rattle.record.proofs.Typed.{Typed}
-use Rattle.record.proofs.Listed.{words-few, rows-listed}
-use Rattle.record.proofs.Faultless.{each-fits}
+use Rattle.record.proofs.{Typed.Typed, Listed.words-few, Listed.rows-listed, Faultless.each-fits}
 use Rattle.record.proofs.Bodies.{AllShown, own-id, named, body-back, data-back, not-crossed}
 
 -- one of the 21 commands
@@ -58,8 +44,8 @@ module _ (m : Message) (d : List ℕ) (h : fits m d ≡ true) where
   abbrev look : List ℕ → Cell
   look = lookIn Cell.missing own cells
 
-  shown : AllShown look (rowsOf m d)
-  shown k = shown-in (rowsOf m d) (row-back (rowsOf m d) (words-few m d)) k own (kinds-of (commandIn (m .body))) (each-fits m d h) (rows-listed m d)
+  shown : AllShown look (sayingsOf m d)
+  shown k = shown-in (sayingsOf m d) (row-back (sayingsOf m d) (words-few m d)) k own (kinds-of (commandIn (m .body))) (each-fits m d h) (rows-listed m d)
 
   message-back : Typed m → messageOf (commandIn (m .body)) look ≡ m
   unfolding messageOf
@@ -68,13 +54,13 @@ module _ (m : Message) (d : List ℕ) (h : fits m d ≡ true) where
   own-reading : Typed m → readingBy (commandIn (m .body)) own cells ≡ Reading.reads m (lentOf m d)
   own-reading t =
       rw (
-        faultless (rowsOf m d) (row-back (rowsOf m d) (words-few m d)) own 0 0 (kinds-of (commandIn (m .body))) (each-fits m d h),
+        faultless (sayingsOf m d) (row-back (sayingsOf m d) (words-few m d)) own 0 0 (kinds-of (commandIn (m .body))) (each-fits m d h),
         not-crossed look d (m .«op_id») own (m .body) shown,
       )
       (λ i. Reading.reads (message-back t i) (data-back look d (m .«op_id») (m .body) shown i))
 
   says-name : saysOf m d (bytes "command") ≡ some (Value.string (nameAt commands (commandIn (m .body))))
-  unfolding rowsOf partIn
+  unfolding sayingsOf partIn
   says-name = refl
 
   named-reading : (said : List ℕ → Said) → readingNamed (some (nameAt commands (commandIn (m .body)))) said ≡ readingBy (commandIn (m .body)) own (cellsOf own said)

@@ -6,10 +6,7 @@ use lib.IntN.{ℤ}
 use mir.Val.{Val}
 use denote.Laws.{Is}
 use denote.Struct.Declared.{row}
-use Rattle.record.specs.declared.Sixteen.{Sixteen}
-use Rattle.record.specs.declared.Packet.{Packet}
-use Rattle.record.specs.declared.Body.{Body}
-use Rattle.record.specs.declared.Message.{Message}
+use Rattle.record.specs.declared.{Sixteen.Sixteen, Packet.Packet, Body.Body, Message.Message}
 use Rattle.record.proofs.Message.{the-type}
 use Rattle.record.proofs.Sixteen as the-sixteen
 use Rattle.record.proofs.Packet as the-packet

@@ -2,8 +2,7 @@
 use Prim.Native.Nat.{ℕ}
 use mathlib.Core.List.{List, []}
 use lib.ListN.{take}
-use Rattle.record.specs.declared.Body.{Body}
-use Rattle.record.specs.declared.Message.{Message}
+use Rattle.record.specs.declared.{Body.Body, Message.Message}
 
 abbrev pub lentBy : Body → List ℕ → List ℕ
 lentBy (Body.Con x) d = []

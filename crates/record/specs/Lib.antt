@@ -4,5 +4,5 @@ pub mod Fits
 pub mod Written
 pub mod Reading
 pub mod Meant
-pub mod Places
 pub mod Lent
+pub mod code

@@ -1,7 +1,6 @@
 -- The reading of an outer map's pairs: a refusal, or a record and the bytes that stand beside it. 11, 12, then 13, 14 or 15 by the gravest fault.
 use Prim.Native.Nat.{ℕ, _-_, _/_, max}
-use mathlib.Core.List.{List}
-use mathlib.Core.Option.{Option, some, none}
+use mathlib.Core.{List.List, Option.Option, Option.some, Option.none}
 use lib.Dec.{eqb, ltb}
 use Rattle.octets.specs.Choice.{either}
 use Rattle.element.specs.Meaning.{Fields}
@@ -16,12 +15,12 @@ pub data Reading : Type 0 where
   refused : ℕ → Reading
   reads : Message → List ℕ → Reading
 
-abbrev pub judged : ℕ → Message → List ℕ → Reading
-judged g m d = either (eqb g 0) (λ _. Reading.reads m d) (λ _. Reading.refused (16 - g / 64))
+abbrev pub readingUnless : ℕ → Message → List ℕ → Reading
+readingUnless g m d = either (eqb g 0) (λ _. Reading.reads m d) (λ _. Reading.refused (16 - g / 64))
 
 abbrev pub readingBy : ℕ → List Field → List Cell → Reading
 readingBy c l cs =
-    judged (max (gravest 0 0 l cs) (crossed l (lookIn Cell.missing l cs))) (messageOf c (lookIn Cell.missing l cs)) (dataOf c (lookIn Cell.missing l cs))
+    readingUnless (max (gravest 0 0 l cs) (crossed l (lookIn Cell.missing l cs))) (messageOf c (lookIn Cell.missing l cs)) (dataOf c (lookIn Cell.missing l cs))
 
 -- a command by its number
 unfoldable pub readingAs : ℕ → (List ℕ → Said) → Reading

@@ -1,38 +1,13 @@
 -- The record of a command, from what its fields are worth: what is absent is zero. Long bytes stand beside it.
-use Prim.Native.Nat.{ℕ, zero, suc}
-use Prim.Native.String.{String}
+use Prim.Native.{Nat.ℕ, Nat.zero, Nat.suc, String.String}
 use mathlib.Core.List.{List, [], _∷_}
-use lib.ListN.{getD}
 use Rattle.octets.specs.Number.{bigAt}
 use Rattle.names.specs.Names.{bytes, nameAt}
-use Rattle.field.specs.Kind.{Value}
-use Rattle.field.specs.Cell.{Cell}
-use Rattle.message.specs.Record.{valueIn, here, wordIn, figureIn, idIn, markIn, stringOf, maybeWord, maybeId, maybeReal, maybePosition}
-use Rattle.message.specs.declared.MaybeVersion.{MaybeVersion}
-use Rattle.message.specs.declared.Signal.{Signal}
-use Rattle.record.specs.declared.Sixteen.{Sixteen}
-use Rattle.record.specs.declared.Con.{Con}
-use Rattle.record.specs.declared.ConRsp.{ConRsp}
-use Rattle.record.specs.declared.StatusRsp.{StatusRsp}
-use Rattle.record.specs.declared.Packet.{Packet}
-use Rattle.record.specs.declared.Det.{Det}
-use Rattle.record.specs.declared.AttPrp.{AttPrp}
-use Rattle.record.specs.declared.UlData.{UlData}
-use Rattle.record.specs.declared.Body.{Body}
-use Rattle.record.specs.declared.Message.{Message}
-
--- a version's three numbers
-abbrev pub numbersOf : Value → List ℕ
-numbersOf Value.nothing = []
-numbersOf (Value.number z) = []
-numbersOf (Value.figure x) = []
-numbersOf (Value.mark b) = []
-numbersOf (Value.position x y z) = []
-numbersOf (Value.string d) = []
-numbersOf (Value.release a b c) = a ∷ (b ∷ (c ∷ []))
-
-abbrev pub numberIn : ℕ → Cell → ℕ
-numberIn i c = getD (numbersOf (valueIn c)) i 0
+use Rattle.field.specs.Cell.{Cell, valueIn, here, numberIn}
+use Rattle.message.specs.Record.{wordIn, figureIn, idIn, markIn, stringOf, maybeWord, maybeId, maybeReal, maybePosition}
+use Rattle.message.specs.declared.{MaybeVersion.MaybeVersion, Signal.Signal}
+use Rattle.record.specs.declared.{Sixteen.Sixteen, Con.Con, ConRsp.ConRsp, StatusRsp.StatusRsp, Packet.Packet, Det.Det, AttPrp.AttPrp}
+use Rattle.record.specs.declared.{UlData.UlData, Body.Body, Message.Message}
 
 abbrev pub maybeVersion : Cell → MaybeVersion
 maybeVersion c = record { here = here c; major = numberIn 0 c; minor = numberIn 1 c; patch = numberIn 2 c }

@@ -3,16 +3,12 @@ use Prim.Native.Nat.{ℕ}
 use mathlib.Core.Bool.{Bool, true, not, _&&_, _||_}
 use mathlib.Core.List.{List, [], _∷_, _++_}
 use mathlib.Core.Option.{Option}
-use lib.Dec.{leb, ltb}
-use lib.ListN.{length, take}
+use lib.{Dec.leb, Dec.ltb, ListN.length, ListN.take}
 use Rattle.octets.specs.Bytes.{bigBytes}
 use Rattle.names.specs.Names.{commands, nameAt}
 use Rattle.field.specs.Kind.{Value}
-use Rattle.saying.specs.Says.{Part, Row, row, partIn, word, id, mark, real, string, maybeReal, maybeWord, maybeId, maybePlace, maybeVersion, maybeString, unlessZero}
-use Rattle.record.specs.declared.Sixteen.{Sixteen}
-use Rattle.record.specs.declared.Packet.{Packet}
-use Rattle.record.specs.declared.Body.{Body}
-use Rattle.record.specs.declared.Message.{Message}
+use Rattle.saying.specs.Says.{Part, Saying, says, partIn, word, id, mark, real, string, realIf, wordIf, idIf, positionIf, versionIf, stringIf, unlessZero}
+use Rattle.record.specs.declared.{Sixteen.Sixteen, Packet.Packet, Body.Body, Message.Message}
 use Rattle.record.specs.Record.{commandIn}
 
 unfoldable pub sixteenBytes : Sixteen → List ℕ
@@ -47,78 +43,78 @@ isNamed (Body.DetPrp eui) = true
 isNamed (Body.UlData x) = true
 isNamed (Body.Bare c) = isBare c
 
-abbrev pub packetRows : Packet → List Row → List Row
-packetRows p rs =
-    row "epEui" (word (p .«ep_eui»)) ∷
-    row "rxTime" (word (p .«rx_time»)) ∷
-    row "rxDuration" (maybeWord (p .«rx_duration»)) ∷
-    row "packetCnt" (word (p .«packet_cnt»)) ∷
-    row "snr" (real (p .signal .snr)) ∷
-    row "rssi" (real (p .signal .rssi)) ∷
-    row "eqSnr" (maybeReal (p .signal .«has_eq_snr») (p .signal .«eq_snr»)) ∷
-    row "profile" (maybeString 16 (p .«profile_len») (sixteenBytes (p .profile))) ∷
+abbrev pub packetSayings : Packet → List Saying → List Saying
+packetSayings p rs =
+    says "epEui" (word (p .«ep_eui»)) ∷
+    says "rxTime" (word (p .«rx_time»)) ∷
+    says "rxDuration" (wordIf (p .«rx_duration»)) ∷
+    says "packetCnt" (word (p .«packet_cnt»)) ∷
+    says "snr" (real (p .signal .snr)) ∷
+    says "rssi" (real (p .signal .rssi)) ∷
+    says "eqSnr" (realIf (p .signal .«has_eq_snr») (p .signal .«eq_snr»)) ∷
+    says "profile" (stringIf 16 (p .«profile_len») (sixteenBytes (p .profile))) ∷
     rs
 
 -- each key of the command once; D fields are not kept. responseExp stands only with dlOpen
-unfoldable pub bodyRows : Body → List ℕ → List Row
-bodyRows (Body.Con x) d =
-    row "version" (maybeVersion (x .version)) ∷
-    row "bsEui" (word (x .«bs_eui»)) ∷
-    row "bidi" (mark (x .bidi)) ∷
-    row "geoLocation" (maybePlace (x .«geo_location»)) ∷
-    row "snBsUuid" (sixteen (x .«sn_bs_uuid»)) ∷
-    row "snBsOpId" (maybeId (x .«sn_bs_op_id»)) ∷
-    row "snScOpId" (maybeId (x .«sn_sc_op_id»)) ∷
+unfoldable pub bodySayings : Body → List ℕ → List Saying
+bodySayings (Body.Con x) d =
+    says "version" (versionIf (x .version)) ∷
+    says "bsEui" (word (x .«bs_eui»)) ∷
+    says "bidi" (mark (x .bidi)) ∷
+    says "geoLocation" (positionIf (x .«geo_location»)) ∷
+    says "snBsUuid" (sixteen (x .«sn_bs_uuid»)) ∷
+    says "snBsOpId" (idIf (x .«sn_bs_op_id»)) ∷
+    says "snScOpId" (idIf (x .«sn_sc_op_id»)) ∷
     []
-bodyRows (Body.ConRsp x) d =
-    row "version" (maybeVersion (x .version)) ∷
-    row "scEui" (word (x .«sc_eui»)) ∷
-    row "snResume" (mark (x .«sn_resume»)) ∷
-    row "snScUuid" (sixteen (x .«sn_sc_uuid»)) ∷
+bodySayings (Body.ConRsp x) d =
+    says "version" (versionIf (x .version)) ∷
+    says "scEui" (word (x .«sc_eui»)) ∷
+    says "snResume" (mark (x .«sn_resume»)) ∷
+    says "snScUuid" (sixteen (x .«sn_sc_uuid»)) ∷
     []
-bodyRows (Body.StatusRsp x) d =
-    row "code" (id (x .code)) ∷
-    row "message" (lent (x .«message_len») d) ∷
-    row "time" (word (x .time)) ∷
-    row "dutyCycle" (real (x .«duty_cycle»)) ∷
-    row "geoLocation" (maybePlace (x .«geo_location»)) ∷
-    row "uptime" (maybeWord (x .uptime)) ∷
-    row "temp" (maybeReal (x .temp .here) (x .temp .value)) ∷
-    row "cpuLoad" (maybeReal (x .«cpu_load» .here) (x .«cpu_load» .value)) ∷
-    row "memLoad" (maybeReal (x .«mem_load» .here) (x .«mem_load» .value)) ∷
+bodySayings (Body.StatusRsp x) d =
+    says "code" (id (x .code)) ∷
+    says "message" (lent (x .«message_len») d) ∷
+    says "time" (word (x .time)) ∷
+    says "dutyCycle" (real (x .«duty_cycle»)) ∷
+    says "geoLocation" (positionIf (x .«geo_location»)) ∷
+    says "uptime" (wordIf (x .uptime)) ∷
+    says "temp" (realIf (x .temp .here) (x .temp .value)) ∷
+    says "cpuLoad" (realIf (x .«cpu_load» .here) (x .«cpu_load» .value)) ∷
+    says "memLoad" (realIf (x .«mem_load» .here) (x .«mem_load» .value)) ∷
     []
-bodyRows (Body.Det x) d = packetRows (x .packet) (row "sign" (four (x .sign)) ∷ [])
-bodyRows (Body.DetRsp sign) d = row "sign" (four sign) ∷ []
-bodyRows (Body.AttPrp x) d =
-    row "epEui" (word (x .«ep_eui»)) ∷
-    row "bidi" (mark (x .bidi)) ∷
-    row "nwkSnKey" (sixteen (x .«nwk_sn_key»)) ∷
-    row "shAddr" (word (x .«sh_addr»)) ∷
-    row "lastPacketCnt" (word (x .«last_packet_cnt»)) ∷
-    row "dualChan" (mark (x .«dual_chan»)) ∷
-    row "repetition" (mark (x .repetition)) ∷
-    row "wideCarrOff" (mark (x .«wide_carr_off»)) ∷
-    row "longBlkDist" (mark (x .«long_blk_dist»)) ∷
+bodySayings (Body.Det x) d = packetSayings (x .packet) (says "sign" (four (x .sign)) ∷ [])
+bodySayings (Body.DetRsp sign) d = says "sign" (four sign) ∷ []
+bodySayings (Body.AttPrp x) d =
+    says "epEui" (word (x .«ep_eui»)) ∷
+    says "bidi" (mark (x .bidi)) ∷
+    says "nwkSnKey" (sixteen (x .«nwk_sn_key»)) ∷
+    says "shAddr" (word (x .«sh_addr»)) ∷
+    says "lastPacketCnt" (word (x .«last_packet_cnt»)) ∷
+    says "dualChan" (mark (x .«dual_chan»)) ∷
+    says "repetition" (mark (x .repetition)) ∷
+    says "wideCarrOff" (mark (x .«wide_carr_off»)) ∷
+    says "longBlkDist" (mark (x .«long_blk_dist»)) ∷
     []
-bodyRows (Body.DetPrp eui) d = row "epEui" (word eui) ∷ []
-bodyRows (Body.UlData x) d =
-    packetRows (x .packet)
-    (row "userData" (lent (x .«user_len») d) ∷
-    row "format" (unlessZero (x .format)) ∷
-    row "dlOpen" (mark (x .«dl_open»)) ∷
-    row "responseExp" (tested (not (x .«response_exp») || x .«dl_open») (mark (x .«response_exp»))) ∷
-    row "dlAck" (mark (x .«dl_ack»)) ∷
+bodySayings (Body.DetPrp eui) d = says "epEui" (word eui) ∷ []
+bodySayings (Body.UlData x) d =
+    packetSayings (x .packet)
+    (says "userData" (lent (x .«user_len») d) ∷
+    says "format" (unlessZero (x .format)) ∷
+    says "dlOpen" (mark (x .«dl_open»)) ∷
+    says "responseExp" (tested (not (x .«response_exp») || x .«dl_open») (mark (x .«response_exp»))) ∷
+    says "dlAck" (mark (x .«dl_ack»)) ∷
     [])
-bodyRows (Body.Bare c) d = []
+bodySayings (Body.Bare c) d = []
 
-unfoldable pub rowsOf : Message → List ℕ → List Row
-rowsOf m d =
-    row "command" (tested (isNamed (m .body)) (string (nameAt commands (commandIn (m .body))))) ∷
-    row "opId" (id (m .«op_id»)) ∷
-    bodyRows (m .body) d
+unfoldable pub sayingsOf : Message → List ℕ → List Saying
+sayingsOf m d =
+    says "command" (tested (isNamed (m .body)) (string (nameAt commands (commandIn (m .body))))) ∷
+    says "opId" (id (m .«op_id»)) ∷
+    bodySayings (m .body) d
 
 abbrev pub partOf : Message → List ℕ → List ℕ → Part
-partOf m d k = partIn (rowsOf m d) k
+partOf m d k = partIn (sayingsOf m d) k
 
 abbrev pub saysOf : Message → List ℕ → List ℕ → Option Value
 saysOf m d k = partOf m d k .said

@@ -6,8 +6,7 @@ use Rattle.forms.specs.Shortest.{mapTree}
 use Rattle.message.specs.Fields.{fieldsOf}
 use Rattle.saying.specs.Written.{pairsFrom, frameOf}
 use Rattle.record.specs.declared.Message.{Message}
-use Rattle.record.specs.Record.{commandIn}
-use Rattle.record.specs.Says.{saysOf}
+use Rattle.record.specs.{Record.commandIn, Says.saysOf}
 
 abbrev pub treeFor : Message → List ℕ → Tree
 treeFor m d = mapTree (pairsFrom (fieldsOf (commandIn (m .body))) (saysOf m d))

@@ -4,7 +4,7 @@ use message::MaybePosition;
 use message::MaybeReal;
 use message::MaybeVersion;
 use message::MaybeWord;
-use message::Signal;
+use names::numbers;
 ghost use mathlib.Core.Path.{_≡_};
 ghost use Rattle.record.specs.Record.{commandIn};
 
@@ -50,7 +50,7 @@ pub struct Packet {
     pub rx_time: u64,
     pub rx_duration: MaybeWord,
     pub packet_cnt: u32,
-    pub signal: Signal,
+    pub signal: message::Signal,
     pub profile_len: u8,
     pub profile: Sixteen,
 }
@@ -113,14 +113,14 @@ pub fn command_in(b: Body) -> u8
     ensures { λ r. ⌜ r ≡ commandIn b ⌝ }
 {
     match b {
-        Body::Con(_) => 0,
-        Body::ConRsp(_) => 1,
-        Body::StatusRsp(_) => 2,
-        Body::Det(_) => 3,
-        Body::DetRsp(_) => 4,
-        Body::AttPrp(_) => 5,
-        Body::DetPrp(_) => 6,
-        Body::UlData(_) => 7,
+        Body::Con(_) => numbers::CON,
+        Body::ConRsp(_) => numbers::CON_RSP,
+        Body::StatusRsp(_) => numbers::STATUS_RSP,
+        Body::Det(_) => numbers::DET,
+        Body::DetRsp(_) => numbers::DET_RSP,
+        Body::AttPrp(_) => numbers::ATT_PRP,
+        Body::DetPrp(_) => numbers::DET_PRP,
+        Body::UlData(_) => numbers::UL_DATA,
         Body::Bare(c) => c,
     }
 }

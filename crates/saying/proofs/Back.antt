@@ -1,33 +1,26 @@
 -- A value in its range reads back as it was written: what its tree means is what the kind's judgement asks for. By one case a kind.
 -- A text has a form where its length is below 2 ^ 32, which the range of a word does not say. Assumes nothing.
-use mathlib.Core.Path.{_≡_, refl}
-use mathlib.Core.Bool.{Bool, _&&_}
-use mathlib.Core.List.{List, [], _∷_}
-use mathlib.Core.Option.{some}
+use mathlib.Core.{Path._≡_, Path.refl, Bool.Bool, Bool._&&_, List.List, List.[], List._∷_, Option.some}
 use Prim.Native.Nat.{ℕ, suc, _^_, _<_}
 use native.Mathlib.Omega.{arith}
 use lib.Dec.{T, leb, ltb, leb→le, ltb→lt}
-use lib.IntN.{ℤ, pos, negsuc}
-use lib.ListN.{length}
+use lib.{IntN.ℤ, IntN.pos, IntN.negsuc, ListN.length, Pow.areBytes}
 use lib.Ieee.{Float, binary64, toBits, fits as holds}
-use lib.Pow.{areBytes}
 use borrow.Author.Tests.{le-leb}
 use Rattle.octets.proofs.Ranges.{both-left, both-right, is-true}
 use Rattle.element.specs.Meaning.{meaningOf, meaningOfAll}
 use Rattle.number.specs.declared.Number.the-variants.{Real}
 use Rattle.number.specs.Number.{finite, numberOf}
 use Rattle.forms.specs.Shortest.{wholeTree, realTree, arrayTree, numberTrees, versionText}
-use Rattle.shortest.proofs.Wholes.{pos-means, negsuc-means}
-use Rattle.shortest.proofs.Values.{real-number, mark-means, text-means}
-use Rattle.field.specs.Kind.{Kind, Value, kindOf}
+use Rattle.shortest.proofs.{Wholes.pos-means, Wholes.negsuc-means, Values.real-number, Values.mark-means, Values.text-means}
+use Rattle.field.specs.Kind.{Kind, Value}
 use Rattle.field.specs.Judge.{when, octetsIn, realsIn, judge}
 use Rattle.message.specs.Record.{stringOf}
 use Rattle.saying.specs.Fits.{isReal, isSized, inBounds, within}
 use Rattle.saying.specs.Written.{treeOf}
-use Rattle.saying.proofs.Shown.{keptBy}
-use Rattle.saying.proofs.Decimals.{version-back, version-length}
-use Rattle.saying.proofs.Sorts.{Sorted, sorted, bounds, isHeld, kinds-held}
-use Rattle.saying.proofs.Sorts.Sorted.{whole, real, flag, place, array, text, version, word}
+use Rattle.saying.proofs.{Shown.keptBy, Decimals.version-back, Decimals.version-length}
+use Rattle.saying.proofs.Sorts.{Sorted, sorted, bounds, isHeld}
+use Rattle.saying.proofs.Sorts.Sorted.{whole, real, flag, position, array, text, version, word}
 
 -- a test that passed chooses the value
 passed : (b : Bool) (v : Value) → T b → when b v ≡ some v
@@ -51,7 +44,7 @@ real-back x t =
     (both-left (finite binary64 (toBits binary64 x)) (holds binary64 x) t)
 
 place-back : (x y z : Float) → T (isReal x && (isReal y && isReal z))
-    → judge Kind.places (meaningOf (treeOf Kind.places (Value.position x y z))) ≡ some (Value.position x y z)
+    → judge Kind.positions (meaningOf (treeOf Kind.positions (Value.position x y z))) ≡ some (Value.position x y z)
 unfolding judge treeOf arrayTree meaningOf realsIn
 place-back x y z t =
     let u = both-right (isReal x) (isReal y && isReal z) t in
@@ -76,7 +69,7 @@ unfolding judge treeOf
 by-sort (whole lo hi z) h l t = whole-back lo hi z h t
 by-sort (real x) h l t = rw (real-back x t)
 by-sort (flag b) h l t = rw (mark-means b)
-by-sort (place x y z) h l t = place-back x y z t
+by-sort (position x y z) h l t = place-back x y z t
 by-sort (array lo hi d) h l t = array-back lo hi d t
 by-sort (text lo hi d) h l t = rw (text-means d l) (passed (isSized lo hi d) (Value.string d) t)
 by-sort (version a b c) h l t =
@@ -86,5 +79,5 @@ by-sort (version a b c) h l t =
     (leb→le b 65535 (both-left (leb b 65535) (leb c 65535) u)) (leb→le c 65535 (both-right (leb b 65535) (leb c 65535) u)))
 by-sort (word d) h l t = rw (text-means d l)
 
-pub back-of : (n : ℕ) (v : Value) → length (stringOf v) < 2 ^ 32 → T (within (kindOf n) v) → judge (kindOf n) (meaningOf (treeOf (kindOf n) v)) ≡ some (keptBy (kindOf n) v)
-back-of n v l t = by-sort (sorted (kindOf n) v t) (kinds-held n) l (bounds (kindOf n) v t)
+pub back-of : (k : Kind) (v : Value) → T (isHeld k) → length (stringOf v) < 2 ^ 32 → T (within k v) → judge k (meaningOf (treeOf k v)) ≡ some (keptBy k v)
+back-of k v h l t = by-sort (sorted k v t) h l (bounds k v t)

@@ -7,14 +7,13 @@ use mathlib.Core.Option.{Option, some, none}
 use Prim.Native.Nat.{ℕ, zero, suc, _+_, _-_, _*_, _/_, _%_, _^_, _≤_, _<_}
 use native.Mathlib.Nat.{pow-suc}
 use native.Mathlib.Omega.{arith}
-use lib.Dec.{T, eqb, leb}
-use lib.ListN.{length, length-append}
+use lib.{Dec.T, Dec.eqb, Dec.leb, ListN.length, ListN.length-append}
 use borrow.Author.Tests.{le-leb, ne-eqb}
 use Rattle.octets.specs.Choice.{either}
 use Rattle.octets.proofs.Ranges.{both-left, both-right, is-false}
 use Rattle.forms.specs.Shortest.{digitsOf, decimalOf, versionText}
 use Rattle.field.specs.Kind.{Value}
-use Rattle.field.specs.Version.{grown, partsOf, digitsFrom, atMost, numberOfPart, three, versionOf}
+use Rattle.field.specs.Version.{grown, cutAtDots, digitsFrom, atMost, numberOfPart, three, versionOf}
 use Rattle.shortest.proofs.Rows.{below}
 
 -- the digits of a number: one, or one more behind those of a number that is not zero
@@ -103,15 +102,15 @@ no-dot (one b h) = dotless-more b [] tt
 no-dot (then-one n b d p h D) = dotless-more b d (no-dot D)
 
 -- a text is cut at the dot behind them, and not at all where there is none
-uncut : (d : List ℕ) → T (dotless d) → partsOf d ≡ d ∷ []
-unfolding partsOf
+uncut : (d : List ℕ) → T (dotless d) → cutAtDots d ≡ d ∷ []
+unfolding cutAtDots
 uncut [] t = refl
 uncut (c ∷ d) t =
     rw (← is-false (eqb c 0x2E) (both-left (not (eqb c 0x2E)) (dotless d) t))
     (ap (grown c) (uncut d (both-right (not (eqb c 0x2E)) (dotless d) t)))
 
-cut : (d t : List ℕ) → T (dotless d) → partsOf (d ++ (0x2E ∷ t)) ≡ d ∷ partsOf t
-unfolding partsOf
+cut : (d t : List ℕ) → T (dotless d) → cutAtDots (d ++ (0x2E ∷ t)) ≡ d ∷ cutAtDots t
+unfolding cutAtDots
 cut [] t h = refl
 cut (c ∷ d) t h =
     rw (← is-false (eqb c 0x2E) (both-left (not (eqb c 0x2E)) (dotless d) h))
@@ -124,7 +123,7 @@ module _ (a b c : ℕ) where
       let A = decimal 4 a (omega arith) in
       let B = decimal 4 b (omega arith) in
       let C = decimal 4 c (omega arith) in
-      let e : partsOf (versionText a b c) ≡ decimalOf a ∷ (decimalOf b ∷ (decimalOf c ∷ [])) =
+      let e : cutAtDots (versionText a b c) ≡ decimalOf a ∷ (decimalOf b ∷ (decimalOf c ∷ [])) =
       cut (decimalOf a) (decimalOf b ++ (0x2E ∷ decimalOf c)) (no-dot A)
       ∙ ap (λ (l : List (List ℕ)). decimalOf a ∷ l)
       (cut (decimalOf b) (decimalOf c) (no-dot B) ∙ ap (λ (l : List (List ℕ)). decimalOf b ∷ l) (uncut (decimalOf c) (no-dot C))) in

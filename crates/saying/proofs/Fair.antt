@@ -2,30 +2,26 @@
 -- which was read is finite and a binary64 holds for both formats, since a value of binary32 is one of binary64. Assumes nothing.
 use mathlib.Core.Path.{_≡_, refl, sym, ap, subst, _∙_}
 use mathlib.Core.Bool.{Bool, true, false, not, cond}
-use mathlib.Core.List.{List, [], _∷_}
-use mathlib.Core.Option.{Option, some, none}
+use mathlib.Core.{List.List, List.[], List._∷_, Option.Option, Option.some, Option.none}
 use Prim.Native.Nat.{ℕ, zero, suc, _/_, _%_}
 use native.Mathlib.Omega.{arith}
 use lib.Dec.{T, eqb, leb, ltb, leb·suc-suc}
-use lib.IntN.{ℤ, pos, negsuc}
+use lib.{IntN.ℤ, IntN.pos, IntN.negsuc, Pow.areBytes}
 use lib.Ieee.{Float, nan, inf, fin, Format, binary32, binary64, ofBits, ofFields, odd, toBits, fits as holds, top, hid, ones}
 use lib.Ieee.Bits.{ofBits-toBits, ofBits-fits}
 use lib.Ieee.Fits.{and-i, fits-widens}
-use lib.Pow.{areBytes}
 use Rattle.octets.specs.Choice.{either}
 use Rattle.octets.proofs.Ranges.{true-false}
-use Rattle.element.specs.Meaning.{Element, Elements}
+use Rattle.element.specs.{Meaning.Element, Meaning.Elements, Meaning.Elements.no-more, Meaning.Elements.more}
 use Rattle.element.specs.Meaning.Element.{null, truth, whole, single, double, text, octets, typed, list, table}
-use Rattle.element.specs.Meaning.Elements.{no-more, more}
-use Rattle.number.specs.declared.Number.{Number}
-use Rattle.number.specs.declared.Number.the-variants.{Signed, Unsigned, Real, Not}
+use Rattle.number.specs.declared.Number.{Number, the-variants.Signed, the-variants.Unsigned, the-variants.Real, the-variants.Not}
 use Rattle.number.specs.Number.{numberOf, finite}
 use Rattle.field.specs.Kind.{Kind, Value}
-use Rattle.field.specs.Judge.{when, onSome, inRange, wholeIn, realIn, octetIn, truthOf, textOf, partsOf, octetsIn, realsIn, positionOf, sized, judge}
+use Rattle.field.specs.Judge.{when, onSome, inRange, wholeIn, realIn, octetIn, truthOf, textOf, partsOf, octetsIn, realsIn, threeOf, stringSized, judge}
 use Rattle.field.specs.Version.{numberOfPart, digitsFrom, atMost, released, three, versionOf}
 use Rattle.field.specs.Version as Version
 use Rattle.field.specs.Cell.{Said, Cell, judged, cellOf}
-use Rattle.message.specs.Reading.{faultOf}
+use Rattle.message.specs.Reading.{cellFault}
 use Rattle.saying.specs.Fits.{isReal, isSized}
 
 -- a cell of a kind that a record keeps
@@ -34,7 +30,7 @@ pub data Fair : Kind → Cell → Type 0 where
   number : (lo hi : ℕ) (z : ℤ) → T (inRange lo hi z) → Fair (Kind.wholes lo hi) (Cell.good (Value.number z))
   figure : (x : Float) → T (isReal x) → Fair Kind.reals (Cell.good (Value.figure x))
   mark : (b : Bool) → Fair Kind.flags (Cell.good (Value.mark b))
-  position : (x y z : Float) → T (isReal x) → T (isReal y) → T (isReal z) → Fair Kind.places (Cell.good (Value.position x y z))
+  position : (x y z : Float) → T (isReal x) → T (isReal y) → T (isReal z) → Fair Kind.positions (Cell.good (Value.position x y z))
   array : (lo hi : ℕ) (d : List ℕ) → T (isSized lo hi d) → T (areBytes d) → Fair (Kind.arrays lo hi) (Cell.good (Value.string d))
   letters : (lo hi : ℕ) (d : List ℕ) → T (isSized lo hi d) → Fair (Kind.texts lo hi) (Cell.good (Value.string d))
   release : (a b c : ℕ) → T (leb a 65535) → T (leb b 65535) → T (leb c 65535) → Fair Kind.versions (Cell.good (Value.release a b c))
@@ -184,7 +180,7 @@ isSound Cell.double = false
 isSound Cell.bad = false
 isSound (Cell.good v) = true
 
-pub sound : (must : Bool) (c : Cell) → faultOf must c ≡ 0 → T (isSound c)
+pub sound : (must : Bool) (c : Cell) → cellFault must c ≡ 0 → T (isSound c)
 sound must Cell.missing e = tt
 sound must Cell.double e = absurd (omega arith)
 sound must Cell.bad e = absurd (omega arith)
@@ -195,7 +191,7 @@ abbrev pub isKept : Kind → Bool
 isKept (Kind.wholes lo hi) = true
 isKept Kind.reals = true
 isKept Kind.flags = true
-isKept Kind.places = true
+isKept Kind.positions = true
 isKept (Kind.arrays lo hi) = true
 isKept (Kind.texts lo hi) = true
 isKept Kind.versions = true
@@ -224,30 +220,30 @@ flag-fair : (o : Option Bool) → FairIf Kind.flags (onSome o (λ b. some (Value
 flag-fair none t = absurd t
 flag-fair (some b) t = Fair.mark b
 
-position-fair : (xs : List Float) → AllReal xs → FairIf Kind.places (positionOf xs)
+position-fair : (xs : List Float) → AllReal xs → FairIf Kind.positions (threeOf xs)
 position-fair [] r t = absurd t
 position-fair (x ∷ []) r t = absurd t
 position-fair (x ∷ (y ∷ [])) r t = absurd t
 position-fair (x ∷ (y ∷ (z ∷ []))) r t = Fair.position x y z (r .0) (r .1 .0) (r .1 .1 .0)
 position-fair (x ∷ (y ∷ (z ∷ (w ∷ rest)))) r t = absurd t
 
-place-fair : (o : Option Elements) → FairIf Kind.places (onSome o (λ es. onSome (realsIn es) positionOf))
+place-fair : (o : Option Elements) → FairIf Kind.positions (onSome o (λ es. onSome (realsIn es) threeOf))
 place-fair none t = absurd t
 place-fair (some es) t = go (realsIn es) (reals-in es) t
   where
-    go : (p : Option (List Float)) → Where AllReal p → FairIf Kind.places (onSome p positionOf)
+    go : (p : Option (List Float)) → Where AllReal p → FairIf Kind.positions (onSome p threeOf)
     go none r t = absurd t
     go (some xs) r t = position-fair xs r t
 
-array-fair : (lo hi : ℕ) (o : Option Elements) → FairIf (Kind.arrays lo hi) (onSome o (λ es. onSome (octetsIn es) (sized lo hi)))
+array-fair : (lo hi : ℕ) (o : Option Elements) → FairIf (Kind.arrays lo hi) (onSome o (λ es. onSome (octetsIn es) (stringSized lo hi)))
 array-fair lo hi none t = absurd t
 array-fair lo hi (some es) t = go (octetsIn es) (octets-in es) t
   where
-    go : (p : Option (List ℕ)) → Where (λ (d : List ℕ). T (areBytes d)) p → FairIf (Kind.arrays lo hi) (onSome p (sized lo hi))
+    go : (p : Option (List ℕ)) → Where (λ (d : List ℕ). T (areBytes d)) p → FairIf (Kind.arrays lo hi) (onSome p (stringSized lo hi))
     go none r t = absurd t
     go (some d) r t = fair-when (Kind.arrays lo hi) (isSized lo hi d) (Value.string d) (λ s. Fair.array lo hi d s r) t
 
-text-fair : (lo hi : ℕ) (o : Option (List ℕ)) → FairIf (Kind.texts lo hi) (onSome o (sized lo hi))
+text-fair : (lo hi : ℕ) (o : Option (List ℕ)) → FairIf (Kind.texts lo hi) (onSome o (stringSized lo hi))
 text-fair lo hi none t = absurd t
 text-fair lo hi (some d) t = fair-when (Kind.texts lo hi) (isSized lo hi d) (Value.string d) (Fair.letters lo hi d) t
 
@@ -267,14 +263,14 @@ three-fair (a ∷ (b ∷ (c ∷ (d ∷ rest)))) t = absurd t
 version-fair : (o : Option (List ℕ)) → FairIf Kind.versions (onSome o versionOf)
 unfolding versionOf
 version-fair none t = absurd t
-version-fair (some d) t = three-fair (Version.partsOf d) t
+version-fair (some d) t = three-fair (Version.cutAtDots d) t
 
 judge-fair : (k : Kind) (e : Element) → T (isKept k) → FairIf k (judge k e)
 unfolding judge
 judge-fair (Kind.wholes lo hi) e u = whole-fair lo hi (numberOf e)
 judge-fair Kind.reals e u = real-fair (realIn (numberOf e)) (real-in (numberOf e) (real-read e))
 judge-fair Kind.flags e u = flag-fair (truthOf e)
-judge-fair Kind.places e u = place-fair (partsOf e)
+judge-fair Kind.positions e u = place-fair (partsOf e)
 judge-fair (Kind.arrays lo hi) e u = array-fair lo hi (partsOf e)
 judge-fair (Kind.texts lo hi) e u = text-fair lo hi (textOf e)
 judge-fair Kind.versions e u = version-fair (textOf e)

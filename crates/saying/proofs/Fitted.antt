@@ -2,8 +2,7 @@
 -- induction over the list. Assumes nothing.
 use mathlib.Core.Path.{_≡_, refl, sym, subst, _∙_}
 use mathlib.Core.Bool.{Bool, true, false, not, _&&_, _||_, and-false}
-use mathlib.Core.List.{List, [], _∷_}
-use mathlib.Core.Option.{Option, some, none}
+use mathlib.Core.{List.List, List.[], List._∷_, Option.Option, Option.some, Option.none}
 use Prim.Native.Nat.{ℕ}
 use native.Mathlib.Omega.{arith}
 use lib.Dec.{T}
@@ -12,20 +11,15 @@ use Rattle.octets.specs.Choice.{either}
 use Rattle.octets.proofs.Ranges.{both-left, both-right, is-false, true-false}
 use Rattle.names.specs.Names.{bytes, sameBytes}
 use Rattle.names.proofs.Same.{same-refl, same-eq}
-use Rattle.field.specs.Kind.{Kind, Value, kinds, kindIn, kindOf}
-use Rattle.field.specs.Judge.{onSome, textOf, judge}
-use Rattle.field.specs.Cell.{Said, Cell, cellOf}
+use Rattle.field.specs.{Kind.Kind, Kind.Value, Judge.onSome, Judge.textOf, Judge.judge}
+use Rattle.field.specs.Cell.{Said, Cell, cellOf, here}
 use Rattle.field.specs.Cell as Cells
-use Rattle.message.specs.Fields.{Field, lists, fieldsOf}
-use Rattle.message.specs.Record.{here}
-use Rattle.message.specs.Reading.{faultOf, commandSaid}
+use Rattle.message.specs.{Fields.Field, Fields.lists, Fields.fieldsOf, Reading.cellFault, Reading.commandSaid}
 use Rattle.message.proofs.KeyKinds.{passes, kindFor, agreed, first-agreed, others-agreed, kinds-of, lacks}
-use Rattle.saying.specs.Says.{Part, Row, string, partIn}
+use Rattle.saying.specs.Says.{Part, Saying, string, partIn}
 use Rattle.saying.specs.Fits.{within, saidFits, fieldFits}
-use Rattle.saying.proofs.Rows.{hasRow, rowless}
+use Rattle.saying.proofs.{Rows.hasRow, Rows.rowless, Made.isSaid, Made.isMade, Shown.AllFit}
 use Rattle.saying.proofs.Found.{cellAt, cellFor, AllSound, own-cell, found, found-own}
-use Rattle.saying.proofs.Made.{isSaid, isMade}
-use Rattle.saying.proofs.Shown.{AllFit}
 
 -- mandatory in a list, and in that of some command
 abbrev pub neededIn : List Field → List ℕ → Bool
@@ -40,7 +34,7 @@ unfoldable pub isNeeded : List ℕ → Bool
 isNeeded u = neededAmong lists u
 
 -- a mandatory field has a row
-abbrev pub areKept : List Row → List Field → Bool
+abbrev pub areKept : List Saying → List Field → Bool
 areKept rs [] = true
 areKept rs (f ∷ l) = (not (f .must) || (isNeeded (f .key) && hasRow rs (f .key))) && areKept rs l
 
@@ -54,24 +48,24 @@ pub _and_ : {A B : Type 0} → A → B → A × B
 a and b = (a, b)
 
 -- a field that may be absent, or a part that says something
-says-fits : (b : Bool) (f : Field) (o : Option Value) → (T b → T (not (f .must))) → T (isSaid b (kindOf (f .kind)) o) → T (saidFits f o)
+says-fits : (b : Bool) (f : Field) (o : Option Value) → (T b → T (not (f .must))) → T (isSaid b (f .kind) o) → T (saidFits f o)
 says-fits b f none may t = may t
 says-fits b f (some v) may t = t
 
-made-fits : (needed : Bool) (f : Field) (p : Part) → T (not (f .must) || needed) → (c : Cell) → faultOf (f .must) c ≡ 0
-    → T (isMade needed (kindOf (f .kind)) c p) → T (fieldFits f p)
+made-fits : (needed : Bool) (f : Field) (p : Part) → T (not (f .must) || needed) → (c : Cell) → cellFault (f .must) c ≡ 0
+    → T (isMade needed (f .kind) c p) → T (fieldFits f p)
 made-fits needed f p n Cell.missing e t =
-    let k = kindOf (f .kind) in
+    let k = f .kind in
     and-i (p .clean) (saidFits f (p .said)) (both-left (p .clean) (isSaid true k (p .said)) t)
     (says-fits true f (p .said) (λ _. go (f .must) e) (both-right (p .clean) (isSaid true k (p .said)) t))
   where
-    go : (b : Bool) → faultOf b Cell.missing ≡ 0 → T (not b)
+    go : (b : Bool) → cellFault b Cell.missing ≡ 0 → T (not b)
     go true e = absurd (omega arith)
     go false e = tt
 made-fits needed f p n Cell.double e t = absurd t
 made-fits needed f p n Cell.bad e t = absurd t
 made-fits needed f p n (Cell.good v) e t =
-    let k = kindOf (f .kind) in
+    let k = f .kind in
     and-i (p .clean) (saidFits f (p .said)) (both-left (p .clean) (isSaid (not needed) k (p .said)) t)
     (says-fits (not needed) f (p .said) (go (f .must) needed n) (both-right (p .clean) (isSaid (not needed) k (p .said)) t))
   where
@@ -81,7 +75,7 @@ made-fits needed f p n (Cell.good v) e t =
     go false b n t = tt
 
 -- a field of no row
-no-part : (f : Field) (rs : List Row) → T (not (f .must)) → hasRow rs (f .key) ≡ false → T (fieldFits f (partIn rs (f .key)))
+no-part : (f : Field) (rs : List Saying) → T (not (f .must)) → hasRow rs (f .key) ≡ false → T (fieldFits f (partIn rs (f .key)))
 no-part f rs t e = rw (rowless rs (f .key) e) t
 
 -- the command's own field is always there
@@ -98,13 +92,13 @@ named-made n Said.twice e b d = let z : _≡_ {A = ℕ} 0 1 = cc in absurd (omeg
 
 -- each part of the rows is what its key's cell makes
 abbrev pub IsMade : (List ℕ → Cell) → List ℕ → Part → Type 0
-IsMade look u p = T (isMade (isNeeded u) (kindOf (kindFor u)) (look u) p)
+IsMade look u p = T (isMade (isNeeded u) (kindFor u) (look u) p)
 
-abbrev pub AllMade : (List ℕ → Cell) → List Row → Type 0
+abbrev pub AllMade : (List ℕ → Cell) → List Saying → Type 0
 AllMade look [] = Unit {0}
 AllMade look (r ∷ rs) = IsMade look (r .key) (r .part) × AllMade look rs
 
-part-made : (look : List ℕ → Cell) (u : List ℕ) (rs : List Row) → AllMade look rs → hasRow rs u ≡ true → IsMade look u (partIn rs u)
+part-made : (look : List ℕ → Cell) (u : List ℕ) (rs : List Saying) → AllMade look rs → hasRow rs u ≡ true → IsMade look u (partIn rs u)
 unfolding partIn
 part-made look u [] a e = true-false (sym e)
 part-made look u (r ∷ rs) a e = go (sameBytes (r .key) u) refl e (part-made look u rs (a .1))
@@ -123,7 +117,7 @@ module _ (said : List ℕ → Said) (c : ℕ) (s : AllSound said (fieldsOf c)) w
   look u = found said c u
 
   pub command-made : (n d : List ℕ) → commandSaid (said (bytes "command")) ≡ some n → IsMade (found said c) (bytes "command") (string d)
-  unfolding kindFor lists kinds kindIn
+  unfolding kindFor lists
   command-made n d named =
       rw (found-own said (bytes "command") c (has-command c))
       (named-made n (said (bytes "command")) named (isNeeded (bytes "command")) d)
@@ -133,13 +127,13 @@ module _ (said : List ℕ → Said) (c : ℕ) (s : AllSound said (fieldsOf c)) w
   needed-there u [] g z t = absurd t
   needed-there u (f ∷ l) g z t = go (f .must) (sameBytes (f .key) u) refl (z .0) t (needed-there u l (others-agreed f l g) (z .1))
     where
-      sound-there : (x : Cell) → faultOf true x ≡ 0 → T (here x)
+      sound-there : (x : Cell) → cellFault true x ≡ 0 → T (here x)
       sound-there Cell.missing e = absurd (omega arith)
       sound-there Cell.double e = absurd (omega arith)
       sound-there Cell.bad e = absurd (omega arith)
       sound-there (Cell.good v) e = tt
 
-      go : (must same : Bool) → sameBytes (f .key) u ≡ same → faultOf must (cellAt said f) ≡ 0 → T (must && same || neededIn l u)
+      go : (must same : Bool) → sameBytes (f .key) u ≡ same → cellFault must (cellAt said f) ≡ 0 → T (must && same || neededIn l u)
           → (T (neededIn l u) → (lacks l u ≡ false) × T (here (cellFor said u))) → (not same && lacks l u ≡ false) × T (here (cellFor said u))
       go true true q e t rest = (refl, subst (λ (x : Cell). T (here x)) (own-cell said f l u g (same-eq (f .key) u q)) (sound-there (cellAt said f) e))
       go true false q e t rest = rest t
@@ -151,8 +145,8 @@ module _ (said : List ℕ → Said) (c : ℕ) (s : AllSound said (fieldsOf c)) w
       let n = needed-there u own (kinds-of c) s t in
       rw (found-own said u c (n .0)) (n .1)
 
-  module _ (rows : List Row) (a : AllMade (found said c) rows) where
-    field-fits : (f : Field) (l : List Field) → T (agreed (f ∷ l)) → faultOf (f .must) (cellAt said f) ≡ 0 → T (areKept rows (f ∷ l)) → lacks own (f .key) ≡ false
+  module _ (rows : List Saying) (a : AllMade (found said c) rows) where
+    field-fits : (f : Field) (l : List Field) → T (agreed (f ∷ l)) → cellFault (f .must) (cellAt said f) ≡ 0 → T (areKept rows (f ∷ l)) → lacks own (f .key) ≡ false
         → T (fieldFits f (partIn rows (f .key)))
     field-fits f l g z k i = go (hasRow rows (f .key)) refl (both-left (not (f .must) || (isNeeded (f .key) && hasRow rows (f .key))) (areKept rows l) k)
       where
@@ -168,10 +162,10 @@ module _ (said : List ℕ → Said) (c : ℕ) (s : AllSound said (fieldsOf c)) w
         go true e t =
             let p = partIn rows (f .key) in
             let x : look (f .key) ≡ cellAt said f = found-own said (f .key) c i ∙ sym (own-cell said f l (f .key) g refl) in
-            let y : T (isMade (isNeeded (f .key)) (kindOf (f .kind)) (look (f .key)) p) =
-            subst (λ (n : ℕ). T (isMade (isNeeded (f .key)) (kindOf n) (look (f .key)) p)) (sym (first-agreed f l g)) (part-made look (f .key) rows a e) in
+            let y : T (isMade (isNeeded (f .key)) (f .kind) (look (f .key)) p) =
+            subst (λ (k : Kind). T (isMade (isNeeded (f .key)) k (look (f .key)) p)) (sym (first-agreed f l g)) (part-made look (f .key) rows a e) in
             made-fits (isNeeded (f .key)) f p (needed (f .must) (isNeeded (f .key)) true t) (cellAt said f) z
-            (subst (λ (d : Cell). T (isMade (isNeeded (f .key)) (kindOf (f .kind)) d p)) x y)
+            (subst (λ (d : Cell). T (isMade (isNeeded (f .key)) (f .kind) d p)) x y)
         go false e t = no-part f rows (unneeded (f .must) (isNeeded (f .key)) t) e
 
     each-fit : (l : List Field) → T (agreed l) → AllSound said l → T (areKept rows l) → ((u : List ℕ) → lacks l u ≡ false → lacks own u ≡ false) → AllFit rows l

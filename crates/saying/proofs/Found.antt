@@ -1,15 +1,13 @@
 -- What reading finds under each key where it finds no fault: under a key that the command has, what is said of it, nothing or a value in the
 -- range of the key's one kind; under the others nothing. By induction over the command's list. Assumes nothing.
 use mathlib.Core.Path.{_≡_, refl, ap, _∙_}
-use mathlib.Core.Bool.{Bool, true, false}
-use mathlib.Core.List.{List, [], _∷_}
+use mathlib.Core.{Bool.Bool, Bool.true, Bool.false, List.List, List.[], List._∷_}
 use Prim.Native.Nat.{ℕ, zero, suc, max}
 use native.Mathlib.Omega.{arith}
 use lib.Dec.{T}
-use Rattle.field.specs.Kind.{kindOf}
-use Rattle.field.specs.Cell.{Said, Cell, cellOf}
+use Rattle.field.specs.{Kind.Kind, Cell.Said, Cell.Cell, Cell.cellOf}
 use Rattle.message.specs.Fields.{Field, fieldsOf}
-use Rattle.message.specs.Reading.{cellsOf, faultOf, graded, gravest, lookIn}
+use Rattle.message.specs.Reading.{cellsOf, cellFault, graded, gravest, lookIn}
 use Rattle.message.proofs.KeyKinds.{kindFor, agreed, first-agreed, others-agreed, kinds-of, lacks}
 use Rattle.message.proofs.Looked.{Each, unlisted, listed}
 use Rattle.saying.proofs.Fair.{Fair, isKept, sound, cell-fair}
@@ -20,7 +18,7 @@ unfolding gravest
 none-before [] cs g i e = e
 none-before (f ∷ l) [] g i e = e
 none-before (f ∷ l) (c ∷ cs) g i e =
-    let n = none-before l cs (max g (graded (faultOf (f .must) c) i)) (suc i) e in
+    let n = none-before l cs (max g (graded (cellFault (f .must) c) i)) (suc i) e in
     omega arith
 
 none-graded : (f i : ℕ) → graded f i ≡ 0 → f ≡ 0
@@ -30,25 +28,25 @@ none-graded (suc f) i e = absurd (omega arith)
 -- the cells of a list, and that of a key
 module _ (said : List ℕ → Said) where
   abbrev pub cellAt : Field → Cell
-  cellAt f = cellOf (kindOf (f .kind)) (said (f .key))
+  cellAt f = cellOf (f .kind) (said (f .key))
 
   abbrev pub cellFor : List ℕ → Cell
-  cellFor u = cellOf (kindOf (kindFor u)) (said u)
+  cellFor u = cellOf (kindFor u) (said u)
 
   pub own-cell : (f : Field) (l : List Field) (u : List ℕ) → T (agreed (f ∷ l)) → f .key ≡ u → cellAt f ≡ cellFor u
-  own-cell f l u a e = ap (λ (n : ℕ). cellOf (kindOf n) (said (f .key))) (first-agreed f l a) ∙ ap cellFor e
+  own-cell f l u a e = ap (λ (k : Kind). cellOf k (said (f .key))) (first-agreed f l a) ∙ ap cellFor e
 
   abbrev pub AllSound : List Field → Type 0
   AllSound [] = Unit {0}
-  AllSound (f ∷ l) = (faultOf (f .must) (cellAt f) ≡ 0) × AllSound l
+  AllSound (f ∷ l) = (cellFault (f .must) (cellAt f) ≡ 0) × AllSound l
 
   pub all-sound : (l : List Field) (g i : ℕ) → gravest g i l (cellsOf l said) ≡ 0 → AllSound l
   unfolding gravest cellsOf
   all-sound [] g i e = tt
   all-sound (f ∷ l) g i e =
-      let h = max g (graded (faultOf (f .must) (cellAt f)) i) in
+      let h = max g (graded (cellFault (f .must) (cellAt f)) i) in
       let z : h ≡ 0 = none-before l (cellsOf l said) h (suc i) e in
-      (none-graded (faultOf (f .must) (cellAt f)) i (omega arith), all-sound l h (suc i) e)
+      (none-graded (cellFault (f .must) (cellAt f)) i (omega arith), all-sound l h (suc i) e)
 
   -- the cell of a key in a command's list
   abbrev pub found : ℕ → List ℕ → Cell
@@ -66,16 +64,16 @@ module _ (said : List ℕ → Said) where
     pub found-none : (c : ℕ) → lacks (fieldsOf c) u ≡ true → found c u ≡ Cell.missing
     found-none c = unlisted u (fieldsOf c) (cellsOf (fieldsOf c) said) Cell.missing
 
-    module _ (k : T (isKept (kindOf (kindFor u)))) where
-      own-fair : (l : List Field) → T (agreed l) → AllSound l → Each (λ f c. f .key ≡ u → Fair (kindOf (kindFor u)) c) l (cellsOf l said)
+    module _ (k : T (isKept (kindFor u))) where
+      own-fair : (l : List Field) → T (agreed l) → AllSound l → Each (λ f c. f .key ≡ u → Fair (kindFor u) c) l (cellsOf l said)
       unfolding cellsOf
       own-fair [] a s = tt
       own-fair (f ∷ l) a s =
-          (λ e. rw (own-cell f l u a e) (cell-fair (kindOf (kindFor u)) k (said u) (rw (own-cell f l u a e) at (sound (f .must) (cellAt f) (s .0)))), own-fair l (others-agreed f l a) (s .1))
+          (λ e. rw (own-cell f l u a e) (cell-fair (kindFor u) k (said u) (rw (own-cell f l u a e) at (sound (f .must) (cellAt f) (s .0)))), own-fair l (others-agreed f l a) (s .1))
 
-  pub fair : (c : ℕ) → AllSound (fieldsOf c) → (u : List ℕ) → T (isKept (kindOf (kindFor u))) → Fair (kindOf (kindFor u)) (found c u)
+  pub fair : (c : ℕ) → AllSound (fieldsOf c) → (u : List ℕ) → T (isKept (kindFor u)) → Fair (kindFor u) (found c u)
   fair c s u k = go (lacks (fieldsOf c) u) refl
     where
-      go : (b : Bool) → lacks (fieldsOf c) u ≡ b → Fair (kindOf (kindFor u)) (found c u)
-      go false e = listed u (Fair (kindOf (kindFor u))) (fieldsOf c) (cellsOf (fieldsOf c) said) Cell.missing (own-fair u k (fieldsOf c) (kinds-of c) s) e
-      go true e = rw (found-none u c e) (Fair.left (kindOf (kindFor u)))
+      go : (b : Bool) → lacks (fieldsOf c) u ≡ b → Fair (kindFor u) (found c u)
+      go false e = listed u (Fair (kindFor u)) (fieldsOf c) (cellsOf (fieldsOf c) said) Cell.missing (own-fair u k (fieldsOf c) (kinds-of c) s) e
+      go true e = rw (found-none u c e) (Fair.left (kindFor u))

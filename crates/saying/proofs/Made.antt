@@ -1,8 +1,7 @@
 -- What each sort of part of a record is, made from a cell of its kind without a fault: what it says is in range, and nothing stands beside that.
 -- Assumes nothing.
-use mathlib.Core.Path.{sym, subst}
+use mathlib.Core.{Path.sym, Path.subst, Option.Option, Option.some, Option.none}
 use mathlib.Core.Bool.{Bool, true, false, not, _&&_, _||_}
-use mathlib.Core.Option.{Option, some, none}
 use Prim.Native.Nat.{ℕ, suc}
 use lib.Dec.{T, eqb, leb, leb·zero, leb·suc-zero}
 use lib.IntN.{pos, negsuc}
@@ -11,10 +10,10 @@ use lib.Ieee.Fits.{and-i}
 use Rattle.octets.specs.Choice.{either}
 use Rattle.octets.proofs.Ranges.{true-is}
 use Rattle.field.specs.Kind.{Kind, Value}
-use Rattle.field.specs.Cell.{Cell, zero64}
-use Rattle.message.specs.Record.{here, wordIn, figureIn, idIn, markIn, origin, maybeWord, maybeId, maybePosition}
+use Rattle.field.specs.Cell.{Cell, zero64, here, origin}
+use Rattle.message.specs.Record.{wordIn, figureIn, idIn, markIn, maybeWord, maybeId, maybePosition}
 use Rattle.saying.specs.Says as Says
-use Rattle.saying.specs.Says.{Part, noBits, noPlace, word, id, mark, real, maybeReal, maybePlace, unlessZero}
+use Rattle.saying.specs.Says.{Part, noBits, noPosition, word, id, mark, real, realIf, positionIf, unlessZero}
 use Rattle.saying.specs.Fits.{isReal, within}
 use Rattle.saying.proofs.Fair.{Fair}
 
@@ -44,7 +43,7 @@ zero-real : T (isReal zero64)
 unfolding ofBits ofFields odd toBits size span climb holds
 zero-real = tt
 
-no-position : T (noPlace origin)
+no-position : T (noPosition origin)
 no-position = and-i (noBits zero64) (noBits zero64 && noBits zero64) no-figure (and-i (noBits zero64) (noBits zero64) no-figure no-figure)
 
 module _ (must : Bool) where
@@ -55,7 +54,7 @@ module _ (must : Bool) where
     word-made (Fair.number lo top (pos n) t) = t
     word-made (Fair.number lo top (negsuc n) t) = not-below n t
 
-    pub maybe-word-made : {c : Cell} → Fair (Kind.wholes 0 hi) c → T (isMade must (Kind.wholes 0 hi) c (Says.maybeWord (maybeWord c)))
+    pub maybe-word-made : {c : Cell} → Fair (Kind.wholes 0 hi) c → T (isMade must (Kind.wholes 0 hi) c (Says.wordIf (maybeWord c)))
     unfolding within
     maybe-word-made (Fair.left k) = tt
     maybe-word-made (Fair.number lo top (pos n) t) = t
@@ -67,7 +66,7 @@ module _ (must : Bool) where
     id-made (Fair.left k) = no-less hi
     id-made (Fair.number low top z t) = t
 
-    pub maybe-id-made : {c : Cell} → Fair (Kind.wholes lo hi) c → T (isMade must (Kind.wholes lo hi) c (Says.maybeId (maybeId c)))
+    pub maybe-id-made : {c : Cell} → Fair (Kind.wholes lo hi) c → T (isMade must (Kind.wholes lo hi) c (Says.idIf (maybeId c)))
     unfolding within
     maybe-id-made (Fair.left k) = tt
     maybe-id-made (Fair.number low top z t) = t
@@ -82,14 +81,14 @@ module _ (must : Bool) where
   real-made (Fair.left k) = zero-real
   real-made (Fair.figure x t) = t
 
-  pub maybe-real-made : {c : Cell} → Fair Kind.reals c → T (isMade must Kind.reals c (maybeReal (here c) (figureIn c)))
+  pub maybe-real-made : {c : Cell} → Fair Kind.reals c → T (isMade must Kind.reals c (realIf (here c) (figureIn c)))
   unfolding within
   maybe-real-made (Fair.left k) = and-i (noBits zero64) true no-figure tt
   maybe-real-made (Fair.figure x t) = t
 
-  pub maybe-place-made : {c : Cell} → Fair Kind.places c → T (isMade must Kind.places c (maybePlace (maybePosition c)))
+  pub maybe-place-made : {c : Cell} → Fair Kind.positions c → T (isMade must Kind.positions c (positionIf (maybePosition c)))
   unfolding within
-  maybe-place-made (Fair.left k) = and-i (noPlace origin) true no-position tt
+  maybe-place-made (Fair.left k) = and-i (noPosition origin) true no-position tt
   maybe-place-made (Fair.position x y z a b d) = and-i (isReal x) (isReal y && isReal z) a (and-i (isReal y) (isReal z) b d)
 
 -- a zero that was read is not said again

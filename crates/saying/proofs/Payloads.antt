@@ -1,31 +1,24 @@
 -- What is written for rows that fit a command's list is a payload: at most 15 pairs in at most 1,000 bytes, each key a short text and each value lawful
 -- and of at most two levels. By induction over the list. Assumes nothing.
-use mathlib.Core.Path.{_≡_, refl}
-use mathlib.Core.Bool.{Bool, true, _&&_}
+use mathlib.Core.{Path._≡_, Path.refl, Bool.Bool, Bool.true, Bool._&&_, Option.Option, Option.some, Option.none}
 use mathlib.Core.List.{List, [], _∷_, _++_}
-use mathlib.Core.Option.{Option, some, none}
 use Prim.Native.Nat.{ℕ, _+_, _≤_, _<_}
 use native.Mathlib.Omega.{arith}
-use lib.Dec.{T, ltb, ltb→lt}
-use lib.ListN.{length, length-append}
+use lib.{Dec.T, Dec.ltb, Dec.ltb→lt, ListN.length, ListN.length-append}
 use Rattle.octets.specs.Choice.{either}
 use Rattle.octets.proofs.Ranges.{both-left, both-right}
-use Rattle.element.specs.Tree.{Pairs, Payload, bytesOf, bytesOfPairs, depthOf, depthOfPairs, pairsOf, Lawful, LawfulPairs}
+use Rattle.element.specs.Tree.{Pairs, Payload, bytesOf, bytesOfPairs, depthOf, depthOfPairs, pairCount, Lawful, LawfulPairs}
 use Rattle.element.specs.Tree.Pairs.{end}
 use Rattle.element.proofs.Bounds.{count-bytes}
 use Rattle.forms.specs.Shortest.{textTree, mapTree}
 use Rattle.shortest.proofs.Values.{text-lawful, text-shape, text-depth, text-length-few}
 use Rattle.shortest.proofs.Many.{map-size-few, map-depth, map-length, map-shape, map-lawful}
-use Rattle.field.specs.Kind.{Value, kindOf}
+use Rattle.field.specs.Kind.{Value}
 use Rattle.message.specs.Fields.{Field, lists, fieldsOf}
 use Rattle.message.proofs.KeyKinds.{kindFor, agreed, first-agreed, others-agreed, kinds-of, passes}
-use Rattle.saying.specs.Says.{Row, partIn}
-use Rattle.saying.specs.Fits.{saidFits}
-use Rattle.saying.specs.Written.{treeOf, pairBy, pairsFrom}
-use Rattle.saying.proofs.Sorts.{sorted, bounds}
-use Rattle.saying.proofs.Rows.{hasRow, saysIn, has-row}
-use Rattle.saying.proofs.Shown.{AllFit}
-use Rattle.saying.proofs.Words.{FewWords, word-few, field-few}
+use Rattle.saying.specs.{Says.Saying, Says.partIn, Fits.saidFits, Written.treeOf, Written.pairBy, Written.pairsFrom}
+use Rattle.saying.proofs.{Sorts.sorted, Sorts.bounds, Rows.hasRow, Rows.saysIn, Rows.has-row, Shown.AllFit}
+use Rattle.saying.proofs.{Words.FewWords, Words.word-few, Words.field-few}
 use Rattle.saying.proofs.Sizes.{value-lawful, value-depth, mostOf, value-length}
 
 -- pairs of so many bytes, so many at most
@@ -33,10 +26,10 @@ record Few (ps : Pairs) (size many : ℕ) : Type 0 where
   lawful : LawfulPairs ps
   depth : depthOfPairs ps ≤ 2
   short : length (bytesOfPairs ps) ≤ size
-  few : pairsOf ps ≤ many
+  few : pairCount ps ≤ many
 
 no-pairs : Few end 0 0
-unfolding Lawful depthOf bytesOf pairsOf
+unfolding Lawful depthOf bytesOf pairCount
 no-pairs = record { lawful = tt; depth = omega arith; short = omega arith; few = omega arith }
 
 -- keys are short
@@ -48,13 +41,13 @@ keys-brief : (c : ℕ) → T (briefKeys (fieldsOf c))
 unfolding lists
 keys-brief c = passes briefKeys tt c
 
-module _ (rs : List Row) where
+module _ (rs : List Saying) where
   -- the most bytes and pairs that a field and a list may take
   abbrev share : Field → ℕ → ℕ
   share f n = either (hasRow rs (f .key)) (λ _. n) (λ _. 0)
 
   abbrev mostFor : Field → ℕ
-  mostFor f = length (f .key) + 1 + mostOf (kindOf (f .kind))
+  mostFor f = length (f .key) + 1 + mostOf (f .kind)
 
   abbrev pub mostIn : List Field → ℕ
   mostIn [] = 0
@@ -67,11 +60,11 @@ module _ (rs : List Row) where
   module _ (words : FewWords rs) where
     one-more : (f : Field) (o : Option Value) → saysIn rs (f .key) ≡ o → f .kind ≡ kindFor (f .key) → length (f .key) < 32 → T (saidFits f o)
         → (ps : Pairs) (size many : ℕ) → Few ps size many → Few (pairBy f o ps) (share f (mostFor f) + size) (share f 1 + many)
-    unfolding Lawful depthOf bytesOf pairsOf
+    unfolding Lawful depthOf bytesOf pairCount
     one-more f none e a h t ps size many F =
         record { lawful = F .lawful; depth = F .depth; short = omega (arith, F .short); few = omega (arith, F .few) }
     one-more f (some v) e a h t ps size many F =
-        let k = kindOf (f .kind) in
+        let k = f .kind in
         let S = sorted k v t in
         let n = field-few rs words f v a e t in
         let key = textTree (f .key) in
@@ -105,20 +98,20 @@ module _ (rs : List Row) where
         (all-few l (others-agreed f l a) (both-right (ltb (length (f .key)) 32) (briefKeys l) b) (t .1))
 
 -- rows that have room in a payload, and fit a command's list
-pub record Roomy (rs : List Row) (c : ℕ) : Type 0 where
+pub record Roomy (rs : List Saying) (c : ℕ) : Type 0 where
   pub words : FewWords rs
   pub fit : AllFit rs (fieldsOf c)
   pub bytes : mostIn rs (fieldsOf c) ≤ 999
   pub pairs : pairsIn rs (fieldsOf c) ≤ 15
 
-module _ (rs : List Row) (c : ℕ) (r : Roomy rs c) where
+module _ (rs : List Saying) (c : ℕ) (r : Roomy rs c) where
   abbrev own : Pairs
   own = pairsFrom (fieldsOf c) (saysIn rs)
 
   own-few : Few own (mostIn rs (fieldsOf c)) (pairsIn rs (fieldsOf c))
   own-few = all-few rs (r .words) (fieldsOf c) (kinds-of c) (keys-brief c) (r .fit)
 
-  pub few-pairs : pairsOf (pairsFrom (fieldsOf c) (saysIn rs)) ≤ 15
+  pub few-pairs : pairCount (pairsFrom (fieldsOf c) (saysIn rs)) ≤ 15
   few-pairs = omega (arith, own-few .few, r .pairs)
 
   pub some-bytes : 0 < length (bytesOf (mapTree (pairsFrom (fieldsOf c) (saysIn rs))))
@@ -127,7 +120,7 @@ module _ (rs : List Row) (c : ℕ) (r : Roomy rs c) where
   pub few-bytes : length (bytesOf (mapTree (pairsFrom (fieldsOf c) (saysIn rs)))) ≤ 1000
   few-bytes =
       let n = few-pairs in
-      omega (arith, map-length own, map-size-few (pairsOf own) (omega arith), own-few .short, r .bytes)
+      omega (arith, map-length own, map-size-few (pairCount own) (omega arith), own-few .short, r .bytes)
 
   pub is-payload : Payload (bytesOf (mapTree (pairsFrom (fieldsOf c) (saysIn rs)))) (mapTree (pairsFrom (fieldsOf c) (saysIn rs)))
   is-payload =

@@ -1,15 +1,14 @@
 -- What rows say of a key: what the row that has it says, and nothing where none has it. By induction over the rows. Assumes nothing.
 use mathlib.Core.Path.{_≡_, refl, sym, ap, _∙_}
 use mathlib.Core.Bool.{Bool, true, false, _||_}
-use mathlib.Core.List.{List, [], _∷_}
-use mathlib.Core.Option.{Option, some, none}
+use mathlib.Core.{List.List, List.[], List._∷_, Option.Option, Option.some, Option.none}
 use Prim.Native.Nat.{ℕ}
 use native.Mathlib.Omega.{arith}
 use Rattle.octets.specs.Choice.{either}
 use Rattle.octets.proofs.Ranges.{true-false}
 use Rattle.names.specs.Names.{sameBytes}
 use Rattle.field.specs.Kind.{Value}
-use Rattle.saying.specs.Says.{Part, Row, noPart, partIn}
+use Rattle.saying.specs.Says.{Part, Saying, noPart, partIn}
 
 pub some-is : {A : Type 0} {a b : A} → some a ≡ some b → a ≡ b
 some-is e = cc
@@ -18,14 +17,14 @@ pub some-none : {A B : Type 0} {a : A} → some a ≡ none → B
 some-none e = let z : _≡_ {A = ℕ} 0 1 = cc in absurd (omega arith)
 
 -- a key of one of the rows, and what they say of a key
-abbrev pub hasRow : List Row → List ℕ → Bool
+abbrev pub hasRow : List Saying → List ℕ → Bool
 hasRow [] k = false
 hasRow (r ∷ rs) k = sameBytes (r .key) k || hasRow rs k
 
-abbrev pub saysIn : List Row → List ℕ → Option Value
+abbrev pub saysIn : List Saying → List ℕ → Option Value
 saysIn rs k = partIn rs k .said
 
-pub rowless : (rs : List Row) (k : List ℕ) → hasRow rs k ≡ false → partIn rs k ≡ noPart
+pub rowless : (rs : List Saying) (k : List ℕ) → hasRow rs k ≡ false → partIn rs k ≡ noPart
 unfolding partIn
 rowless [] k e = refl
 rowless (r ∷ rs) k e = go (sameBytes (r .key) k) e (rowless rs k)
@@ -34,7 +33,7 @@ rowless (r ∷ rs) k e = go (sameBytes (r .key) k) e (rowless rs k)
     go true e rest = true-false e
     go false e rest = rest e
 
-pub has-row : (rs : List Row) (k : List ℕ) (v : Value) → saysIn rs k ≡ some v → hasRow rs k ≡ true
+pub has-row : (rs : List Saying) (k : List ℕ) (v : Value) → saysIn rs k ≡ some v → hasRow rs k ≡ true
 has-row rs k v e = go (hasRow rs k) refl
   where
     go : (b : Bool) → hasRow rs k ≡ b → hasRow rs k ≡ true

@@ -2,8 +2,7 @@
 -- it, and a key of no field has none. By induction over the list, with what was said before it. Assumes nothing.
 use mathlib.Core.Path.{_≡_, refl, sym, ap, ap₂, _∙_}
 use mathlib.Core.Bool.{Bool, true, false, not}
-use mathlib.Core.List.{List, [], _∷_}
-use mathlib.Core.Option.{Option, some, none}
+use mathlib.Core.{List.List, List.[], List._∷_, Option.Option, Option.some, Option.none}
 use Prim.Native.Nat.{ℕ}
 use lib.Dec.{T}
 use Rattle.octets.specs.Choice.{either}
@@ -12,8 +11,7 @@ use Rattle.element.specs.Meaning.{Element, Fields, meaningOf, meaningOfPairs}
 use Rattle.forms.specs.Shortest.{textTree}
 use Rattle.names.specs.Names.{sameBytes}
 use Rattle.names.proofs.Same.{same-refl, same-eq}
-use Rattle.field.specs.Kind.{Value, kindOf}
-use Rattle.field.specs.Cell.{Said, Cell, cellOf}
+use Rattle.field.specs.{Kind.Value, Cell.Said, Cell.Cell, Cell.cellOf}
 use Rattle.message.specs.Fields.{Field}
 use Rattle.message.specs.Reading.{again, saidFrom, saidOf, cellsOf}
 use Rattle.message.proofs.KeyKinds.{lacks, apart}
@@ -30,7 +28,7 @@ other-way a b = go (sameBytes a b) refl (sameBytes b a) refl
 
 -- what is read where a field's value is written
 abbrev pub elementFor : Field → Value → Element
-elementFor f v = meaningOf (treeOf (kindOf (f .kind)) v)
+elementFor f v = meaningOf (treeOf (f .kind) v)
 
 abbrev pub saidBy : Field → Option Value → Said
 saidBy f none = Said.absent
@@ -38,7 +36,7 @@ saidBy f (some v) = Said.once (elementFor f v)
 
 -- a field's cell
 abbrev pub cellBy : Field → Option Value → Cell
-cellBy f o = cellOf (kindOf (f .kind)) (saidBy f o)
+cellBy f o = cellOf (f .kind) (saidBy f o)
 
 module _ (says : List ℕ → Option Value) where
   abbrev written : List Field → Fields
@@ -105,7 +103,7 @@ module _ (says : List ℕ → Option Value) where
       let b = both-left (lacks l (f .key)) (apart l) t in
       let o = says (f .key) in
       ap₂ (λ (c : Cell) (cs : List Cell). c ∷ cs)
-      (ap (cellOf (kindOf (f .kind)))
+      (ap (cellOf (f .kind))
       (ap (λ (y : Said). saidFrom (f .key) y (written (f ∷ l))) (F .0) ∙ passed-at f l ∙ unsaid l (f .key) (saidBy f o) b))
       (ap (cellsOf l) (λ i k. after-is f l x k i) ∙ cells-from l (after f o x) (both-right (lacks l (f .key)) (apart l) t) (still-fresh f o l x b (F .1)))
 

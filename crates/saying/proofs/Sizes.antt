@@ -1,16 +1,11 @@
 -- The tree of a value in its range is lawful, of at most two levels, and of at most as many bytes as its kind allows. By one case a kind.
 -- Assumes nothing.
-use mathlib.Core.Path.{_≡_, refl}
-use mathlib.Core.Bool.{true}
-use mathlib.Core.List.{[], _++_}
+use mathlib.Core.{Path._≡_, Path.refl, Bool.true, List.[], List._++_}
 use Prim.Native.Nat.{ℕ, _+_, _*_, _^_, _≤_, _<_}
 use native.Mathlib.Omega.{arith}
-use lib.Dec.{T}
-use lib.Ieee.{Float}
-use lib.ListN.{length, length-append}
-use lib.Pow.{areBytes}
+use lib.{Dec.T, Ieee.Float, ListN.length, ListN.length-append, Pow.areBytes}
 use Rattle.octets.proofs.Ranges.{both-left, both-right}
-use Rattle.element.specs.Tree.{Trees, bytesOf, bytesOfAll, depthOf, depthOfAll, partsOf, Lawful, LawfulAll}
+use Rattle.element.specs.Tree.{Trees, bytesOf, bytesOfAll, depthOf, depthOfAll, partCount, Lawful, LawfulAll}
 use Rattle.element.specs.Tree.Trees.{none, some}
 use Rattle.forms.specs.Shortest.{realTree, numberTrees, versionText}
 use Rattle.shortest.proofs.Wholes.{whole-lawful, whole-depth, whole-length}
@@ -18,20 +13,17 @@ use Rattle.shortest.proofs.Values.{real-lawful, real-length, real-depth, mark-l
 use Rattle.shortest.proofs.Many.{array-size, array-size-few, array-depth, array-length, array-lawful, numbers-lawful, numbers-parts, numbers-depth, numbers-length}
 use Rattle.field.specs.Kind.{Kind, Value}
 use Rattle.message.specs.Record.{stringOf}
-use Rattle.saying.specs.Fits.{isSized, inBounds}
-use Rattle.saying.specs.Written.{treeOf}
-use Rattle.saying.proofs.Decimals.{version-length}
-use Rattle.saying.proofs.Sorts.{Sorted, sized-most}
-use Rattle.saying.proofs.Sorts.Sorted.{whole, real, flag, place, array, text, version, word}
-use Rattle.saying.proofs.Words.{isWord}
+use Rattle.saying.specs.{Fits.isSized, Fits.inBounds, Written.treeOf}
+use Rattle.saying.proofs.{Decimals.version-length, Sorts.Sorted, Sorts.sized-most, Words.isWord}
+use Rattle.saying.proofs.Sorts.Sorted.{whole, real, flag, position, array, text, version, word}
 
 -- a place's parts
 module _ (x y z : Float) where
   abbrev three : Trees
   three = some (realTree x) (some (realTree y) (some (realTree z) none))
 
-  three-parts : partsOf three ≡ 3
-  unfolding partsOf
+  three-parts : partCount three ≡ 3
+  unfolding partCount
   three-parts = refl
 
   three-lawful : LawfulAll three
@@ -60,7 +52,7 @@ unfolding treeOf
 value-lawful (whole lo hi z) l = whole-lawful z
 value-lawful (real x) l = real-lawful x
 value-lawful (flag b) l = mark-lawful b
-value-lawful (place x y z) l = array-lawful (three x y z) (omega (arith, three-parts x y z)) (three-lawful x y z)
+value-lawful (position x y z) l = array-lawful (three x y z) (omega (arith, three-parts x y z)) (three-lawful x y z)
 value-lawful (array lo hi d) l = array-lawful (numberTrees d) (omega (arith, numbers-parts d)) (numbers-lawful d)
 value-lawful (text lo hi d) l = text-lawful d l
 value-lawful (version a b c) l = text-lawful (versionText a b c) (omega (arith, version-length a b c))
@@ -71,7 +63,7 @@ unfolding treeOf
 value-depth (whole lo hi z) = omega (arith, whole-depth z)
 value-depth (real x) = omega (arith, real-depth x)
 value-depth (flag b) = omega (arith, mark-depth b)
-value-depth (place x y z) = omega (arith, array-depth (three x y z), three-depth x y z)
+value-depth (position x y z) = omega (arith, array-depth (three x y z), three-depth x y z)
 value-depth (array lo hi d) = omega (arith, array-depth (numberTrees d), numbers-depth d)
 value-depth (text lo hi d) = omega (arith, text-depth d)
 value-depth (version a b c) = omega (arith, text-depth (versionText a b c))
@@ -82,7 +74,7 @@ abbrev pub mostOf : Kind → ℕ
 mostOf (Kind.wholes lo hi) = 9
 mostOf Kind.reals = 9
 mostOf Kind.flags = 1
-mostOf Kind.places = 28
+mostOf Kind.positions = 28
 mostOf (Kind.arrays lo hi) = 5 + 2 * hi
 mostOf (Kind.texts lo hi) = 5 + hi
 mostOf Kind.versions = 18
@@ -95,14 +87,14 @@ unfolding treeOf
 value-length (whole lo hi z) t l w = whole-length z
 value-length (real x) t l w = omega (arith, real-length x)
 value-length (flag b) t l w = omega (arith, mark-length b)
-value-length (place x y z) t l w =
+value-length (position x y z) t l w =
     let e = three-parts x y z in
-    omega (arith, array-length (three x y z), array-size-few (partsOf (three x y z)) (omega arith), three-length x y z)
+    omega (arith, array-length (three x y z), array-size-few (partCount (three x y z)) (omega arith), three-length x y z)
 value-length (array lo hi d) t l w =
     omega (
       arith,
       array-length (numberTrees d),
-      array-size (partsOf (numberTrees d)),
+      array-size (partCount (numberTrees d)),
       numbers-length d (both-right (isSized lo hi d) (areBytes d) t),
       sized-most lo hi d (both-left (isSized lo hi d) (areBytes d) t),
     )

@@ -1,15 +1,16 @@
 -- A value in its range is of its kind's sort, so that laws over kinds go by one case a kind; and the kinds of document 01 are no wider than what a
 -- whole, an array and a text are written in, by one computed test. Assumes nothing.
-use mathlib.Core.Path.{subst}
-use mathlib.Core.Bool.{Bool, true, _&&_}
-use mathlib.Core.List.{List, [], _∷_}
-use Prim.Native.Nat.{ℕ, zero, suc, _^_, _≤_}
+use mathlib.Core.{Path.subst, List.List, List.[], List._∷_}
+use mathlib.Core.Bool.{Bool, true, false, _&&_}
+use Prim.Native.Nat.{ℕ, _^_, _≤_}
 use lib.Dec.{T, eqb, eqb→eq, leb, leb→le, ltb}
-use lib.IntN.{ℤ}
-use lib.Ieee.{Float}
-use lib.ListN.{length}
+use lib.{IntN.ℤ, Ieee.Float, ListN.length}
+use Rattle.octets.specs.Choice.{either}
 use Rattle.octets.proofs.Ranges.{both-left, both-right}
-use Rattle.field.specs.Kind.{Kind, Value, kinds, kindIn, kindOf}
+use Rattle.names.specs.Names.{sameBytes}
+use Rattle.field.specs.Kind.{Kind, Value}
+use Rattle.message.specs.Fields.{Field, lists}
+use Rattle.message.proofs.KeyKinds.{kindBy, joined, kindFor}
 use Rattle.saying.specs.Fits.{isSized, inBounds, sortFor, sortOf, within}
 
 -- a value by the number of its sort
@@ -36,7 +37,7 @@ pub data Sorted : Kind → Value → Type 0 where
   whole : (lo hi : ℕ) (z : ℤ) → Sorted (Kind.wholes lo hi) (Value.number z)
   real : (x : Float) → Sorted Kind.reals (Value.figure x)
   flag : (b : Bool) → Sorted Kind.flags (Value.mark b)
-  place : (x y z : Float) → Sorted Kind.places (Value.position x y z)
+  position : (x y z : Float) → Sorted Kind.positions (Value.position x y z)
   array : (lo hi : ℕ) (d : List ℕ) → Sorted (Kind.arrays lo hi) (Value.string d)
   text : (lo hi : ℕ) (d : List ℕ) → Sorted (Kind.texts lo hi) (Value.string d)
   version : (a b c : ℕ) → Sorted Kind.versions (Value.release a b c)
@@ -46,7 +47,7 @@ by-sort : (k : Kind) (v : Value) → Of (sortFor k) v → Sorted k v
 by-sort (Kind.wholes lo hi) v (number z) = whole lo hi z
 by-sort Kind.reals v (figure x) = real x
 by-sort Kind.flags v (mark b) = flag b
-by-sort Kind.places v (position x y z) = place x y z
+by-sort Kind.positions v (position x y z) = position x y z
 by-sort (Kind.arrays lo hi) v (string d) = array lo hi d
 by-sort (Kind.texts lo hi) v (string d) = text lo hi d
 by-sort Kind.versions v (release a b c) = version a b c
@@ -73,23 +74,25 @@ abbrev pub isHeld : Kind → Bool
 isHeld (Kind.wholes lo hi) = leb lo (2 ^ 63) && ltb hi (2 ^ 64)
 isHeld Kind.reals = true
 isHeld Kind.flags = true
-isHeld Kind.places = true
+isHeld Kind.positions = true
 isHeld (Kind.arrays lo hi) = ltb hi (2 ^ 16)
 isHeld (Kind.texts lo hi) = ltb hi (2 ^ 16)
 isHeld Kind.versions = true
 isHeld Kind.words = true
 isHeld Kind.maps = true
 
-abbrev allHeld : List Kind → Bool
+abbrev allHeld : List Field → Bool
 allHeld [] = true
-allHeld (k ∷ ks) = isHeld k && allHeld ks
+allHeld (f ∷ l) = isHeld (f .kind) && allHeld l
 
-held-in : (ks : List Kind) → T (allHeld ks) → (n : ℕ) → T (isHeld (kindIn ks n))
-unfolding kindIn
-held-in [] t n = tt
-held-in (k ∷ ks) t zero = both-left (isHeld k) (allHeld ks) t
-held-in (k ∷ ks) t (suc n) = held-in ks (both-right (isHeld k) (allHeld ks) t) n
+held-by : (l : List Field) (u : List ℕ) → T (allHeld l) → T (isHeld (kindBy l u))
+held-by [] u t = tt
+held-by (f ∷ l) u t = go (sameBytes (f .key) u) (held-by l u (both-right (isHeld (f .kind)) (allHeld l) t))
+  where
+    go : (b : Bool) → T (isHeld (kindBy l u)) → T (isHeld (either b (λ _. f .kind) (λ _. kindBy l u)))
+    go true h = both-left (isHeld (f .kind)) (allHeld l) t
+    go false h = h
 
-pub kinds-held : (n : ℕ) → T (isHeld (kindOf n))
-unfolding kinds
-kinds-held n = held-in kinds tt n
+pub kind-held : (u : List ℕ) → T (isHeld (kindFor u))
+unfolding kindFor lists
+kind-held u = held-by (joined lists) u tt

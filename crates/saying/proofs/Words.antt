@@ -2,31 +2,23 @@
 -- commands have at most nine bytes. So all that they say in its range reads back. Assumes nothing.
 use mathlib.Core.Path.{_≡_, refl, sym, ap, subst, _∙_}
 use mathlib.Core.Bool.{Bool, true, false, not, _&&_}
-use mathlib.Core.List.{List, [], _∷_}
-use mathlib.Core.Option.{Option, some, none}
+use mathlib.Core.{List.List, List.[], List._∷_, Option.Option, Option.some, Option.none}
 use Prim.Native.Nat.{ℕ, zero, suc, _^_, _≤_, _<_}
 use native.Mathlib.Omega.{arith}
 use lib.Dec.{T, leb, leb→le, ltb→lt}
-use lib.ListN.{length}
-use lib.Pow.{areBytes}
+use lib.{ListN.length, Pow.areBytes}
 use Rattle.octets.specs.Choice.{either}
 use Rattle.octets.proofs.Ranges.{both-left, both-right, is-false, true-false}
 use Rattle.element.specs.Meaning.{meaningOf}
 use Rattle.names.specs.Names.{sameBytes, commands, nameAt}
 use Rattle.names.proofs.Same.{same-eq}
-use Rattle.field.specs.Kind.{Kind, Value, kindOf}
-use Rattle.field.specs.Judge.{judge}
-use Rattle.message.specs.Fields.{Field}
-use Rattle.message.specs.Record.{stringOf}
+use Rattle.field.specs.{Kind.Kind, Kind.Value, Judge.judge}
+use Rattle.message.specs.{Fields.Field, Record.stringOf}
 use Rattle.message.proofs.KeyKinds.{kindFor}
-use Rattle.saying.specs.Says.{Row, partIn}
-use Rattle.saying.specs.Fits.{isSized, inBounds, within}
-use Rattle.saying.specs.Written.{treeOf}
-use Rattle.saying.proofs.Rows.{some-is, some-none, saysIn}
-use Rattle.saying.proofs.Shown.{keptBy}
-use Rattle.saying.proofs.Sorts.{Sorted, sorted, bounds, sized-most, isHeld, kinds-held}
-use Rattle.saying.proofs.Sorts.Sorted.{whole, real, flag, place, array, text, version, word}
-use Rattle.saying.proofs.Back.{back-of}
+use Rattle.saying.specs.{Says.Saying, Says.partIn, Fits.isSized, Fits.inBounds, Fits.within, Written.treeOf}
+use Rattle.saying.proofs.{Rows.some-is, Rows.some-none, Rows.saysIn, Shown.keptBy, Back.back-of}
+use Rattle.saying.proofs.Sorts.{Sorted, sorted, bounds, sized-most, isHeld, kind-held}
+use Rattle.saying.proofs.Sorts.Sorted.{whole, real, flag, position, array, text, version, word}
 
 -- the names of the commands
 abbrev allFew : List (List ℕ) → Bool
@@ -48,7 +40,7 @@ abbrev pub isWord : Kind → Bool
 isWord (Kind.wholes lo hi) = false
 isWord Kind.reals = false
 isWord Kind.flags = false
-isWord Kind.places = false
+isWord Kind.positions = false
 isWord (Kind.arrays lo hi) = false
 isWord (Kind.texts lo hi) = false
 isWord Kind.versions = false
@@ -56,21 +48,21 @@ isWord Kind.words = true
 isWord Kind.maps = false
 
 unfoldable pub isWordKey : List ℕ → Bool
-isWordKey k = isWord (kindOf (kindFor k))
+isWordKey k = isWord (kindFor k)
 
-abbrev pub wordless : List Row → Bool
+abbrev pub wordless : List Saying → Bool
 wordless [] = true
 wordless (r ∷ rs) = not (isWordKey (r .key)) && wordless rs
 
 -- rows without one say nothing of a word
-apart-from : (r : Row) (k : List ℕ) → T (not (isWordKey (r .key))) → isWordKey k ≡ true → sameBytes (r .key) k ≡ false
+apart-from : (r : Saying) (k : List ℕ) → T (not (isWordKey (r .key))) → isWordKey k ≡ true → sameBytes (r .key) k ≡ false
 apart-from r k t w = go (sameBytes (r .key) k) refl
   where
     go : (b : Bool) → sameBytes (r .key) k ≡ b → sameBytes (r .key) k ≡ false
     go true e = true-false (sym w ∙ ap isWordKey (sym (same-eq (r .key) k e)) ∙ sym (is-false (isWordKey (r .key)) t))
     go false e = e
 
-unspoken : (rs : List Row) (k : List ℕ) → T (wordless rs) → isWordKey k ≡ true → partIn rs k .said ≡ none
+unspoken : (rs : List Saying) (k : List ℕ) → T (wordless rs) → isWordKey k ≡ true → partIn rs k .said ≡ none
 unfolding partIn
 unspoken [] k t w = refl
 unspoken (r ∷ rs) k t w =
@@ -78,7 +70,7 @@ unspoken (r ∷ rs) k t w =
     (unspoken rs k (both-right (not (isWordKey (r .key))) (wordless rs) t) w)
 
 -- so the first row says it, where no other has such a key
-only-first : (r : Row) (rs : List Row) (k : List ℕ) (v : Value) → T (wordless rs) → isWordKey k ≡ true → partIn (r ∷ rs) k .said ≡ some v → r .part .said ≡ some v
+only-first : (r : Saying) (rs : List Saying) (k : List ℕ) (v : Value) → T (wordless rs) → isWordKey k ≡ true → partIn (r ∷ rs) k .said ≡ some v → r .part .said ≡ some v
 unfolding partIn
 only-first r rs k v t w = go (sameBytes (r .key) k)
   where
@@ -86,25 +78,25 @@ only-first r rs k v t w = go (sameBytes (r .key) k)
     go true e = e
     go false e = some-none (sym e ∙ unspoken rs k t w)
 
-abbrev pub firstOf : List Row → Option Value
+abbrev pub firstOf : List Saying → Option Value
 firstOf [] = none
 firstOf (r ∷ rs) = r .part .said
 
-abbrev pub othersOf : List Row → List Row
+abbrev pub othersOf : List Saying → List Saying
 othersOf [] = []
 othersOf (r ∷ rs) = rs
 
-only-command : (rs : List Row) (k : List ℕ) (v : Value) → T (wordless (othersOf rs)) → isWordKey k ≡ true → saysIn rs k ≡ some v → firstOf rs ≡ some v
+only-command : (rs : List Saying) (k : List ℕ) (v : Value) → T (wordless (othersOf rs)) → isWordKey k ≡ true → saysIn rs k ≡ some v → firstOf rs ≡ some v
 unfolding partIn
 only-command [] k v t w e = e
 only-command (r ∷ rs) k v t w e = only-first r rs k v t w e
 
 -- rows that say few bytes under the key of a word
-abbrev pub FewWords : List Row → Type 0
-FewWords rs = (k : List ℕ) (v : Value) → saysIn rs k ≡ some v → isWord (kindOf (kindFor k)) ≡ true → length (stringOf v) ≤ 9
+abbrev pub FewWords : List Saying → Type 0
+FewWords rs = (k : List ℕ) (v : Value) → saysIn rs k ≡ some v → isWord (kindFor k) ≡ true → length (stringOf v) ≤ 9
 
 -- a command's name first, and no word behind it
-pub few-words : (rs : List Row) (c : ℕ) → firstOf rs ≡ some (Value.string (nameAt commands c)) → T (wordless (othersOf rs)) → FewWords rs
+pub few-words : (rs : List Saying) (c : ℕ) → firstOf rs ≡ some (Value.string (nameAt commands c)) → T (wordless (othersOf rs)) → FewWords rs
 unfolding isWordKey
 few-words rs c first others k v says w =
     let e : Value.string (nameAt commands c) ≡ v = some-is (sym first ∙ only-command rs k v others w says) in
@@ -114,7 +106,7 @@ few-by : {n : Kind} {v : Value} → Sorted n v → T (isHeld n) → T (inBounds 
 few-by (whole lo hi z) h t w = omega arith
 few-by (real x) h t w = omega arith
 few-by (flag b) h t w = omega arith
-few-by (place x y z) h t w = omega arith
+few-by (position x y z) h t w = omega arith
 few-by (array lo hi d) h t w =
     omega (arith, ltb→lt hi (2 ^ 16) h, sized-most lo hi d (both-left (isSized lo hi d) (areBytes d) t))
 few-by (text lo hi d) h t w = omega (arith, ltb→lt hi (2 ^ 16) h, sized-most lo hi d t)
@@ -122,14 +114,17 @@ few-by (version a b c) h t w = omega arith
 few-by (word d) h t w = omega (arith, w refl)
 
 -- what such rows say of a field whose kind is that of its key
-module _ (rs : List Row) (few : FewWords rs) (f : Field) (v : Value) (agrees : f .kind ≡ kindFor (f .key)) (says : saysIn rs (f .key) ≡ some v) where
-  pub word-few : isWord (kindOf (f .kind)) ≡ true → length (stringOf v) ≤ 9
-  word-few w = few (f .key) v says (ap (λ (n : ℕ). isWord (kindOf n)) (sym agrees) ∙ w)
+module _ (rs : List Saying) (few : FewWords rs) (f : Field) (v : Value) (agrees : f .kind ≡ kindFor (f .key)) (says : saysIn rs (f .key) ≡ some v) where
+  pub word-few : isWord (f .kind) ≡ true → length (stringOf v) ≤ 9
+  word-few w = few (f .key) v says (ap isWord (sym agrees) ∙ w)
 
-  module _ (t : T (within (kindOf (f .kind)) v)) where
+  module _ (t : T (within (f .kind) v)) where
+    held : T (isHeld (f .kind))
+    held = rw agrees (kind-held (f .key))
+
     pub field-few : length (stringOf v) < 2 ^ 16
-    field-few = few-by (sorted (kindOf (f .kind)) v t) (kinds-held (f .kind)) (bounds (kindOf (f .kind)) v t) word-few
+    field-few = few-by (sorted (f .kind) v t) held (bounds (f .kind) v t) word-few
 
     -- it reads back
-    pub row-back : judge (kindOf (f .kind)) (meaningOf (treeOf (kindOf (f .kind)) v)) ≡ some (keptBy (kindOf (f .kind)) v)
-    row-back = let l = field-few in back-of (f .kind) v (omega arith) t
+    pub row-back : judge (f .kind) (meaningOf (treeOf (f .kind) v)) ≡ some (keptBy (f .kind) v)
+    row-back = let l = field-few in back-of (f .kind) v held (omega arith) t

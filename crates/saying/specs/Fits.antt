@@ -1,27 +1,21 @@
 -- Document 01's 15 for a field to write: its value is in the range of its kind, and nothing else is in its part.
 use Prim.Native.Nat.{ℕ}
 use mathlib.Core.Bool.{Bool, true, not, _&&_}
-use mathlib.Core.List.{List}
-use mathlib.Core.Option.{Option, some, none}
-use lib.Dec.{eqb, leb}
+use mathlib.Core.{List.List, Option.Option, Option.some, Option.none}
+use lib.{Dec.eqb, Dec.leb, ListN.length, Pow.areBytes}
 use lib.Ieee.{Float, binary64, toBits, fits as holds}
-use lib.ListN.{length}
-use lib.Pow.{areBytes}
 use Rattle.number.specs.Number.{finite}
 use Rattle.field.specs.declared.Position.{Position}
-use Rattle.field.specs.Kind.{Kind, Value, kindOf}
-use Rattle.field.specs.Judge.{inRange}
-use Rattle.field.specs.Cell.{figureOf}
-use Rattle.message.specs.Fields.{Field}
-use Rattle.message.specs.Record.{idOf, stringOf, positionOf}
+use Rattle.field.specs.{Kind.Kind, Kind.Value, Judge.inRange, Cell.figureOf, Cell.positionOf}
+use Rattle.message.specs.{Fields.Field, Record.idOf, Record.stringOf}
 use Rattle.saying.specs.Says.{Part}
 
 -- a finite real of 64 bits
 abbrev pub isReal : Float → Bool
 isReal x = finite binary64 (toBits binary64 x) && holds binary64 x
 
-abbrev pub isPlace : Position → Bool
-isPlace p = isReal (p .latitude) && (isReal (p .longitude) && isReal (p .altitude))
+abbrev pub isPosition : Position → Bool
+isPosition p = isReal (p .latitude) && (isReal (p .longitude) && isReal (p .altitude))
 
 abbrev pub isSized : ℕ → ℕ → List ℕ → Bool
 isSized lo hi d = leb lo (length d) && leb (length d) hi
@@ -40,7 +34,7 @@ abbrev pub inBounds : Kind → Value → Bool
 inBounds (Kind.wholes lo hi) v = inRange lo hi (idOf v)
 inBounds Kind.reals v = isReal (figureOf v)
 inBounds Kind.flags v = true
-inBounds Kind.places v = isPlace (positionOf v)
+inBounds Kind.positions v = isPosition (positionOf v)
 inBounds (Kind.arrays lo hi) v = isSized lo hi (stringOf v) && areBytes (stringOf v)
 inBounds (Kind.texts lo hi) v = isSized lo hi (stringOf v)
 inBounds Kind.versions v = isRelease v
@@ -52,7 +46,7 @@ abbrev pub sortFor : Kind → ℕ
 sortFor (Kind.wholes lo hi) = 1
 sortFor Kind.reals = 2
 sortFor Kind.flags = 3
-sortFor Kind.places = 4
+sortFor Kind.positions = 4
 sortFor (Kind.arrays lo hi) = 5
 sortFor (Kind.texts lo hi) = 5
 sortFor Kind.versions = 6
@@ -74,7 +68,7 @@ within k v = eqb (sortOf v) (sortFor k) && inBounds k v
 -- a mandatory field is said
 abbrev pub saidFits : Field → Option Value → Bool
 saidFits f none = not (f .must)
-saidFits f (some v) = within (kindOf (f .kind)) v
+saidFits f (some v) = within (f .kind) v
 
 abbrev pub fieldFits : Field → Part → Bool
 fieldFits f p = p .clean && saidFits f (p .said)

@@ -1,17 +1,13 @@
 -- Document 01, "Elements": what is written for the fields that are said, keys in listed order; and the frame of a payload.
 use Prim.Native.Nat.{ℕ}
-use mathlib.Core.Bool.{Bool, true, false}
+use mathlib.Core.{Bool.Bool, Bool.true, Bool.false, Option.Option, Option.some, Option.none}
 use mathlib.Core.List.{List, [], _∷_, _++_}
-use mathlib.Core.Option.{Option, some, none}
 use lib.ListN.{length}
-use Rattle.octets.specs.Choice.{either}
-use Rattle.octets.specs.Bytes.{littleBytes}
+use Rattle.octets.specs.{Choice.either, Bytes.littleBytes}
 use Rattle.frame.specs.Frame.{identifier}
-use Rattle.element.specs.Tree.{Tree, Pairs}
-use Rattle.element.specs.Tree.Tree.{leaf}
-use Rattle.element.specs.Tree.Pairs.{end, pair}
+use Rattle.element.specs.{Tree.Tree, Tree.Pairs, Tree.Tree.leaf, Tree.Pairs.end, Tree.Pairs.pair}
 use Rattle.forms.specs.Shortest.{wholeTree, realTree, markTree, textTree, octetsTree, positionTree, versionText}
-use Rattle.field.specs.Kind.{Kind, Value, kindOf}
+use Rattle.field.specs.Kind.{Kind, Value}
 use Rattle.message.specs.Fields.{Field}
 
 -- bytes are an array of numbers in some fields and a text in the others
@@ -19,7 +15,7 @@ abbrev pub asArray : Kind → Bool
 asArray (Kind.wholes lo hi) = false
 asArray Kind.reals = false
 asArray Kind.flags = false
-asArray Kind.places = false
+asArray Kind.positions = false
 asArray (Kind.arrays lo hi) = true
 asArray (Kind.texts lo hi) = false
 asArray Kind.versions = false
@@ -38,7 +34,7 @@ treeOf k (Value.release a b c) = textTree (versionText a b c)
 
 abbrev pub pairBy : Field → Option Value → Pairs → Pairs
 pairBy f none ps = ps
-pairBy f (some v) ps = pair (textTree (f .key)) (treeOf (kindOf (f .kind)) v) ps
+pairBy f (some v) ps = pair (textTree (f .key)) (treeOf (f .kind) v) ps
 
 -- the pairs of the fields that are said
 unfoldable pub pairsFrom : List Field → (List ℕ → Option Value) → Pairs

@@ -6,22 +6,17 @@ use mathlib.Core.List.{List, [], _∷_, _++_, append-assoc, append-nil}
 use Prim.Native.Nat.{ℕ, suc, _+_, _*_, _^_, _<_}
 use native.Mathlib.Nat.{add-zero}
 use native.Mathlib.Omega.{arith}
-use lib.Dec.{eqb, ltb}
-use lib.IntN.{ℤ, pos}
+use lib.{Dec.eqb, Dec.ltb, IntN.ℤ, IntN.pos}
 use lib.ListN.{length, getD, take, drop, replicate, length-drop, length-map}
 use mir.Syntax.{w64}
 use mir.Val.{SFits}
 use borrow.Author.Tests.{eq-eqb}
-use Rattle.octets.specs.Number.{littleAt}
-use Rattle.octets.specs.Bytes.{littleBytes}
-use Rattle.octets.specs.Signed.{bitsOf, signedOf}
+use Rattle.octets.specs.{Number.littleAt, Bytes.littleBytes, Bytes.markByte, Signed.bitsOf, Signed.signedOf}
 use Rattle.octets.proofs.Places.{here, next, after, part}
-use Rattle.octets.proofs.Digits.{length-little, little-here}
-use Rattle.octets.proofs.Signs.{signed-back, bits-fit}
-use Rattle.session.specs.Session.{State, Entry, Session}
-use Rattle.session.specs.Session.State.{Waiting, Connecting, Open}
-use Rattle.session.specs.Place.{allFree}
-use Rattle.session.specs.Image.{stateByte, stateOf, markByte, idsOf, kindsOf, wordsOf, bytesOf, wordBytes, sessionImage, wordAt, idAt, entriesAt, sessionAt, areZeros, isSession}
+use Rattle.octets.proofs.{Digits.length-little, Digits.little-here, Signs.signed-back, Signs.bits-fit}
+use Rattle.session.specs.{Session.State, Session.Entry, Session.Session, Session.State.Waiting, Session.State.Connecting, Session.State.Open}
+use Rattle.session.specs.{Place.allFree}
+use Rattle.session.specs.Image.{stateByte, stateOf, idsOf, kindsOf, wordsOf, tailOf, wordBytes, sessionImage, wordAt, idAt, entriesAt, sessionAt, areZeros, isSession}
 use Rattle.session.proofs.Image.{Sized}
 
 -- what the types of a session's parts say
@@ -113,18 +108,18 @@ module _ (s : Session) where
   uuids = s .snBsUuid ++ (s .snScUuid ++ last)
 
   -- where each part stands
-  eui-at : drop 0 image ≡ wordBytes (wordsOf s) ++ bytesOf s
+  eui-at : drop 0 image ≡ wordBytes (wordsOf s) ++ tailOf s
   unfolding sessionImage
   eui-at = refl
 
-  highest-at : drop 8 image ≡ wordBytes (bitsOf 64 (s .highest) ∷ (bitsOf 64 (s .lowest) ∷ ids)) ++ bytesOf s
-  highest-at = word-next image 0 (s .bsEui) (bitsOf 64 (s .highest) ∷ (bitsOf 64 (s .lowest) ∷ ids)) (bytesOf s) eui-at
+  highest-at : drop 8 image ≡ wordBytes (bitsOf 64 (s .highest) ∷ (bitsOf 64 (s .lowest) ∷ ids)) ++ tailOf s
+  highest-at = word-next image 0 (s .bsEui) (bitsOf 64 (s .highest) ∷ (bitsOf 64 (s .lowest) ∷ ids)) (tailOf s) eui-at
 
-  lowest-at : drop 16 image ≡ wordBytes (bitsOf 64 (s .lowest) ∷ ids) ++ bytesOf s
-  lowest-at = word-next image 8 (bitsOf 64 (s .highest)) (bitsOf 64 (s .lowest) ∷ ids) (bytesOf s) highest-at
+  lowest-at : drop 16 image ≡ wordBytes (bitsOf 64 (s .lowest) ∷ ids) ++ tailOf s
+  lowest-at = word-next image 8 (bitsOf 64 (s .highest)) (bitsOf 64 (s .lowest) ∷ ids) (tailOf s) highest-at
 
-  station-at : drop 24 image ≡ wordBytes ids ++ bytesOf s
-  station-at = word-next image 16 (bitsOf 64 (s .lowest)) ids (bytesOf s) lowest-at
+  station-at : drop 24 image ≡ wordBytes ids ++ tailOf s
+  station-at = word-next image 16 (bitsOf 64 (s .lowest)) ids (tailOf s) lowest-at
 
   module _ (g : Sized s) where
     station-long : 24 + 8 * length (idsOf (s .station)) ≡ 152
@@ -133,14 +128,14 @@ module _ (s : Session) where
     centre-long : 152 + 8 * length (idsOf (s .centre)) ≡ 280
     centre-long = ap (λ (n : ℕ). 152 + 8 * n) (length-map (s .centre) (λ (e : Entry). bitsOf 64 (e .id)) ∙ g .centre)
 
-    centre-at : drop 152 image ≡ wordBytes (idsOf (s .centre) ++ []) ++ bytesOf s
+    centre-at : drop 152 image ≡ wordBytes (idsOf (s .centre) ++ []) ++ tailOf s
     centre-at =
-        ap (λ (n : ℕ). drop n image) (sym station-long) ∙ words-behind image 24 (idsOf (s .station)) (idsOf (s .centre)) (bytesOf s) station-at
-        ∙ ap (λ (l : List ℕ). wordBytes l ++ bytesOf s) (sym (append-nil (idsOf (s .centre))))
+        ap (λ (n : ℕ). drop n image) (sym station-long) ∙ words-behind image 24 (idsOf (s .station)) (idsOf (s .centre)) (tailOf s) station-at
+        ∙ ap (λ (l : List ℕ). wordBytes l ++ tailOf s) (sym (append-nil (idsOf (s .centre))))
 
-    station-kinds-at : drop 280 image ≡ bytesOf s
+    station-kinds-at : drop 280 image ≡ tailOf s
     unfolding wordBytes
-    station-kinds-at = ap (λ (n : ℕ). drop n image) (sym centre-long) ∙ words-behind image 152 (idsOf (s .centre)) [] (bytesOf s) centre-at
+    station-kinds-at = ap (λ (n : ℕ). drop n image) (sym centre-long) ∙ words-behind image 152 (idsOf (s .centre)) [] (tailOf s) centre-at
 
     centre-kinds-at : drop 296 image ≡ kindsOf (s .centre) ++ uuids
     centre-kinds-at =
@@ -181,23 +176,23 @@ module _ (s : Session) where
     station-here : entriesAt image 24 280 16 ≡ s .station
     station-here =
         ap (entriesAt image 24 280) (sym (g .lists .station))
-        ∙ entries-here image 24 280 (s .station) (idsOf (s .centre)) (bytesOf s) (kindsOf (s .centre) ++ uuids) (g .station) station-at (station-kinds-at (g .lists))
+        ∙ entries-here image 24 280 (s .station) (idsOf (s .centre)) (tailOf s) (kindsOf (s .centre) ++ uuids) (g .station) station-at (station-kinds-at (g .lists))
 
     centre-here : entriesAt image 152 296 16 ≡ s .centre
     centre-here =
         ap (entriesAt image 152 296) (sym (g .lists .centre))
-        ∙ entries-here image 152 296 (s .centre) [] (bytesOf s) uuids (g .centre) (centre-at (g .lists)) (centre-kinds-at (g .lists))
+        ∙ entries-here image 152 296 (s .centre) [] (tailOf s) uuids (g .centre) (centre-at (g .lists)) (centre-kinds-at (g .lists))
 
     pub session-back : sessionAt (sessionImage s) ≡ s
     unfolding sessionAt
     session-back = λ i. record {
       state = (ap stateOf (state-here (g .lists)) ∙ state-back (s .state)) i;
       stored = (ap (λ (n : ℕ). not (eqb n 0)) (stored-here (g .lists)) ∙ mark-back (s .stored)) i;
-      bsEui = word-here image 0 (s .bsEui) (bitsOf 64 (s .highest) ∷ (bitsOf 64 (s .lowest) ∷ ids)) (bytesOf s) eui-at (g .eui) i;
+      bsEui = word-here image 0 (s .bsEui) (bitsOf 64 (s .highest) ∷ (bitsOf 64 (s .lowest) ∷ ids)) (tailOf s) eui-at (g .eui) i;
       snBsUuid = bytes-here image 312 16 (s .snBsUuid) (s .snScUuid ++ last) (g .lists .bsUuid) (bs-uuid-at (g .lists)) i;
       snScUuid = bytes-here image 328 16 (s .snScUuid) last (g .lists .scUuid) (sc-uuid-at (g .lists)) i;
-      highest = id-here image 8 (bitsOf 64 (s .highest)) (bitsOf 64 (s .lowest) ∷ ids) (bytesOf s) highest-at (s .highest) (g .highest) refl i;
-      lowest = id-here image 16 (bitsOf 64 (s .lowest)) ids (bytesOf s) lowest-at (s .lowest) (g .lowest) refl i;
+      highest = id-here image 8 (bitsOf 64 (s .highest)) (bitsOf 64 (s .lowest) ∷ ids) (tailOf s) highest-at (s .highest) (g .highest) refl i;
+      lowest = id-here image 16 (bitsOf 64 (s .lowest)) ids (tailOf s) lowest-at (s .lowest) (g .lowest) refl i;
       station = station-here i;
       centre = centre-here i;
     }

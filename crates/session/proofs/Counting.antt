@@ -2,23 +2,19 @@
 -- of each step by its cases, of a run by induction over it. Assumes nothing.
 use mathlib.Core.Path.{_≡_, refl, ap, _∙_}
 use mathlib.Core.Bool.{Bool, true, false, _&&_}
-use mathlib.Core.List.{List, [], _∷_}
-use mathlib.Core.Option.{Option, some, none}
+use mathlib.Core.{List.List, List.[], List._∷_, Option.Option, Option.some, Option.none}
 use Prim.Native.Nat.{ℕ, suc, _-_}
 use native.Mathlib.Omega.{arith}
-use lib.Dec.{eqb}
-use lib.IntN.{ℤ, pos, negsuc}
+use lib.{Dec.eqb, IntN.ℤ, IntN.pos, IntN.negsuc}
 use borrow.Author.Tests.{ltb-true, ne-eqb}
 use Rattle.octets.specs.Choice.{either}
 use Rattle.names.specs.Names.{bytes, commandOf}
 use Rattle.record.specs.declared.Message.{Message}
-use Rattle.record.specs.Record.{fourOf, commandIn}
-use Rattle.record.specs.Fits.{fits}
-use Rattle.session.specs.Session.{State, Session, Host}
-use Rattle.session.specs.Session.State.{Waiting, Connecting, Open}
-use Rattle.session.specs.Place.{sameId, freePlace, placeOf, openIn}
+use Rattle.record.specs.{Record.fourOf, Record.commandIn, Fits.fits}
+use Rattle.session.specs.{Session.State, Session.Session, Session.Host, Session.State.Waiting, Session.State.Connecting, Session.State.Open}
+use Rattle.session.specs.Place.{sameId, freePlace, entryPlace, openIn}
 use Rattle.session.specs.Kinds.{Operation, stationStarts, centreStarts, operationBy}
-use Rattle.session.specs.Arrive.{Outcome, below, highestOf, lowestOf, resumes, starts, startAt, completeAt, respondAt, inWaiting, inConnecting, inOpen, inState, arrives}
+use Rattle.session.specs.Arrive.{Outcome, isBelow, highestOf, lowestOf, resumes, starts, startAt, completeAt, respondAt, inWaiting, inConnecting, inOpen, inState, arrives}
 use Rattle.session.specs.Centre.{oneBelow, lastId, underId, beginAt, kindBegins, ifOpen, centreBegins, lostIn, lost}
 use Rattle.session.specs.Run.{Event, reached, after, happenedOf, lossOf, happenedIn, stationAfter, centreAfter, afterAll, countAll}
 use Rattle.session.proofs.Cases.{by-test, by-result, by-choice, by-con}
@@ -35,10 +31,10 @@ Counts s (Outcome.silent w t) = Counted s w t
 Counts s (Outcome.replies w t m d) = Counted s w t
 
 -- an ID above the highest, and one below the lowest, is not 0
-above : (h z : ℤ) → below (either (below h (pos 0)) (λ _. pos 0) (λ _. h)) z ≡ true → sameId z (pos 0) ≡ false
-above (pos a) (pos n) e = go (below (pos a) (pos 0)) e
+above : (h z : ℤ) → isBelow (either (isBelow h (pos 0)) (λ _. pos 0) (λ _. h)) z ≡ true → sameId z (pos 0) ≡ false
+above (pos a) (pos n) e = go (isBelow (pos a) (pos 0)) e
   where
-    go : (b : Bool) → below (either b (λ _. pos 0) (λ _. pos a)) (pos n) ≡ true → eqb n 0 ≡ false
+    go : (b : Bool) → isBelow (either b (λ _. pos 0) (λ _. pos a)) (pos n) ≡ true → eqb n 0 ≡ false
     go true e = ne-eqb n 0 (λ z. omega (arith, ltb-true 0 n e))
     go false e = ne-eqb n 0 (λ z. omega (arith, ltb-true a n e))
 above (negsuc a) (pos n) e = ne-eqb n 0 (λ z. omega (arith, ltb-true 0 n e))
@@ -57,13 +53,13 @@ module _ (s : Session) where
   counted-start g o z (some i) n e = record { station = takes-one (s .station) i z (o .start) n e; centre = refl }
 
   counted-starts : (g : ℕ) (o : Operation) (z : ℤ) → Counts s (starts s g o z)
-  counted-starts g o z = by-result (Counts s) (below (highestOf s) z) _ _ (λ e. counted-start g o z (freePlace (s .station)) (above (s .highest) z e) refl) (λ e. tt)
+  counted-starts g o z = by-result (Counts s) (isBelow (highestOf s) z) _ _ (λ e. counted-start g o z (freePlace (s .station)) (above (s .highest) z e) refl) (λ e. tt)
 
-  counted-complete : (k : ℕ) (z : ℤ) (p : Option ℕ) → placeOf z k (s .station) ≡ p → Counts s (completeAt s p)
+  counted-complete : (k : ℕ) (z : ℤ) (p : Option ℕ) → entryPlace z k (s .station) ≡ p → Counts s (completeAt s p)
   counted-complete k z none e = tt
   counted-complete k z (some i) e = record { station = one-fewer _ _ (frees-one (s .station) i z k e); centre = refl }
 
-  counted-respond : (o : Operation) (z : ℤ) (p : Option ℕ) → placeOf z (o .start) (s .centre) ≡ p → Counts s (respondAt s o z p)
+  counted-respond : (o : Operation) (z : ℤ) (p : Option ℕ) → entryPlace z (o .start) (s .centre) ≡ p → Counts s (respondAt s o z p)
   counted-respond o z none e = tt
   counted-respond o z (some i) e = record { station = refl; centre = one-fewer _ _ (frees-one (s .centre) i z (o .start) e) }
 
@@ -71,8 +67,8 @@ module _ (s : Session) where
   unfolding inOpen
   counted-open g c z =
       by-choice (Counts s) (operationBy (λ o. o .start) stationStarts c) _ _ (λ o. counted-starts g o z)
-      (by-choice (Counts s) (operationBy (λ o. o .cmp) stationStarts c) _ _ (λ o. counted-complete (o .start) z (placeOf z (o .start) (s .station)) refl)
-      (by-choice (Counts s) (operationBy (λ o. o .rsp) centreStarts c) _ _ (λ o. counted-respond o z (placeOf z (o .start) (s .centre)) refl) tt))
+      (by-choice (Counts s) (operationBy (λ o. o .cmp) stationStarts c) _ _ (λ o. counted-complete (o .start) z (entryPlace z (o .start) (s .station)) refl)
+      (by-choice (Counts s) (operationBy (λ o. o .rsp) centreStarts c) _ _ (λ o. counted-respond o z (entryPlace z (o .start) (s .centre)) refl) tt))
 
   counted-waiting : (m : Message) (h : Host) → Counts s (inWaiting s m h)
   unfolding inWaiting

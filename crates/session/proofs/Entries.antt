@@ -1,17 +1,13 @@
 -- A Cmp or a Rsp that is accepted frees exactly one entry of its side, a start takes exactly one, and no more are open than there are places.
 -- By the laws of places. Assumes nothing.
-use mathlib.Core.Path.{_≡_, refl, sym}
+use mathlib.Core.{Path._≡_, Path.refl, Path.sym, List.List, Option.some}
 use mathlib.Core.Bool.{Bool, true, false, not, _&&_}
-use mathlib.Core.List.{List}
-use mathlib.Core.Option.{some}
 use Prim.Native.Nat.{ℕ, suc, _-_, _≤_, _<_}
 use native.Mathlib.Omega.{arith}
-use lib.Dec.{eqb}
-use lib.IntN.{ℤ, pos}
-use lib.ListN.{length, getD}
+use lib.{Dec.eqb, IntN.ℤ, IntN.pos, ListN.length, ListN.getD}
 use Rattle.octets.proofs.Ranges.{true-false}
 use Rattle.session.specs.Session.{Entry}
-use Rattle.session.specs.Place.{sameId, isFree, matches, freePlace, placeOf, entry, noEntry, taken, freed, openIn}
+use Rattle.session.specs.Place.{sameId, isFree, matches, freePlace, entryPlace, entry, noEntry, taken, freed, openIn}
 use Rattle.session.proofs.Places.{first-passes, open-taken, open-freed, open-few}
 
 not-free : (z : ℤ) (k : ℕ) (e : Entry) → matches z k e ≡ true → isFree e ≡ false
@@ -23,7 +19,7 @@ not-free z k e t = go (isFree e) t
 
 module _ (t : List Entry) (i : ℕ) where
   -- the entry that a Cmp or Rsp frees
-  module _ (z : ℤ) (k : ℕ) (e : placeOf z k t ≡ some i) where
+  module _ (z : ℤ) (k : ℕ) (e : entryPlace z k t ≡ some i) where
     there : (i < length t) × (matches z k (getD t i noEntry) ≡ true)
     there =
         let p = first-passes (matches z k) t 0 i e in

@@ -1,16 +1,11 @@
 -- After a con that does not resume nothing of the former session is left: the answer is the same whatever it was. Assumes nothing.
-use mathlib.Core.Path.{_≡_, refl, ap}
-use mathlib.Core.Bool.{false}
-use mathlib.Core.List.{List}
-use mathlib.Core.Option.{Option, some, none}
+use mathlib.Core.{Path._≡_, Path.refl, Path.ap, Bool.false, List.List, Option.Option, Option.some, Option.none}
 use Prim.Native.Nat.{ℕ}
 use Rattle.octets.specs.Choice.{either}
-use Rattle.record.specs.declared.Con.{Con}
-use Rattle.record.specs.declared.Message.{Message}
+use Rattle.record.specs.declared.{Con.Con, Message.Message}
 use Rattle.record.specs.Fits.{fits}
-use Rattle.session.specs.Session.{Session, Host}
-use Rattle.session.specs.Session.State.{Waiting}
-use Rattle.session.specs.Arrive.{Outcome, resumes, conIn, orElse, takesCon, inWaiting, arrives}
+use Rattle.session.specs.{Session.Session, Session.Host, Session.State.Waiting}
+use Rattle.session.specs.Arrive.{Outcome, resumes, conIn, orOutcome, takesCon, inWaiting, arrives}
 
 -- a record that does not resume the session
 abbrev pub Anew : Session → Message → Type 0
@@ -18,7 +13,7 @@ Anew s m = (x : Con) → conIn (m .body) ≡ some x → resumes s x ≡ false
 
 module _ (s t : Session) (m : Message) (d : List ℕ) (h : Host) (p : Anew s m) (q : Anew t m) where
   same : (c : Option Con) → conIn (m .body) ≡ c
-      → orElse c (λ x. takesCon s (m .«op_id») x h) (λ _. Outcome.refused 17) ≡ orElse c (λ x. takesCon t (m .«op_id») x h) (λ _. Outcome.refused 17)
+      → orOutcome c (λ x. takesCon s (m .«op_id») x h) (λ _. Outcome.refused 17) ≡ orOutcome c (λ x. takesCon t (m .«op_id») x h) (λ _. Outcome.refused 17)
   same none e = refl
   same (some x) e = rw (p x e, q x e)
 

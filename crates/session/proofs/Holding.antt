@@ -1,38 +1,27 @@
 -- Every step of a session that a program can hold leaves one that it can hold, and so is the session in any 368 bytes: IDs fit 64 bits and lists keep
 -- their lengths. Of each step by its cases; what a record brings was judged before. Assumes nothing.
-use mathlib.Core.Path.{_≡_, refl, _∙_}
+use mathlib.Core.{Path._≡_, Path.refl, Path._∙_, List.List, List.[], List._∷_, Option.Option, Option.some, Option.none}
 use mathlib.Core.Bool.{Bool, true, false, _&&_}
-use mathlib.Core.List.{List, [], _∷_}
-use mathlib.Core.Option.{Option, some, none}
 use Prim.Native.Nat.{ℕ, zero, suc, _+_, _-_, _^_, _<_}
 use native.Mathlib.Omega.{arith}
-use lib.Dec.{eqb, ltb}
-use lib.IntN.{ℤ, pos, negsuc}
+use lib.{Dec.eqb, Dec.ltb, IntN.ℤ, IntN.pos, IntN.negsuc}
 use lib.ListN.{length, set, replicate, length-set}
 use mir.Syntax.{w64}
 use mir.Val.{SFits}
 use borrow.Author.Tests.{eqb-false, ltb-true, ltb-false}
-use Rattle.octets.specs.Bytes.{IsBytes}
-use Rattle.octets.specs.Choice.{either}
-use Rattle.octets.specs.Signed.{signedOf}
+use Rattle.octets.specs.{Bytes.IsBytes, Choice.either, Signed.signedOf}
 use Rattle.octets.proofs.Widths.{little-below}
 use Rattle.names.specs.Names.{bytes, commandOf}
-use Rattle.record.specs.declared.Con.{Con}
-use Rattle.record.specs.declared.Message.{Message}
-use Rattle.record.specs.Record.{fourOf, commandIn}
-use Rattle.record.specs.Says.{sixteenBytes}
-use Rattle.record.specs.Fits.{fits}
+use Rattle.record.specs.declared.{Con.Con, Message.Message}
+use Rattle.record.specs.{Record.fourOf, Record.commandIn, Says.sixteenBytes, Fits.fits}
 use Rattle.session.specs.Session.{State, Entry, Session, Host}
-use Rattle.session.specs.Session.State.{Waiting, Connecting, Open}
-use Rattle.session.specs.Place.{sameId, freePlace, placeOf, noEntry, entry}
+use Rattle.session.specs.{Session.State.Waiting, Session.State.Connecting, Session.State.Open, Image.wordAt, Image.entriesAt, Image.sessionAt}
+use Rattle.session.specs.Place.{sameId, freePlace, entryPlace, noEntry, entry}
 use Rattle.session.specs.Kinds.{Operation, stationStarts, centreStarts, operationBy}
-use Rattle.session.specs.Arrive.{Outcome, below, highestOf, lowestOf, resumes, moved, begun, begunWith, withStation, withCentre, startAt, completeAt, respondAt, inWaiting, inConnecting, inOpen, inState, arrives}
+use Rattle.session.specs.Arrive.{Outcome, isBelow, highestOf, lowestOf, resumes, moved, begun, begunWith, withStation, withCentre, startAt, completeAt, respondAt, inWaiting, inConnecting, inOpen, inState, arrives}
 use Rattle.session.specs.Centre.{oneBelow, lastId, underId, beginAt, kindBegins, ifOpen, centreBegins, lostIn, lost}
-use Rattle.session.specs.Image.{wordAt, entriesAt, sessionAt}
-use Rattle.session.proofs.Image.{sized}
-use Rattle.session.proofs.Back.{AllFit, Held}
+use Rattle.session.proofs.{Image.sized, Back.AllFit, Back.Held, Judged.id-fits, Judged.eui-fits, Judged.sixteen-long}
 use Rattle.session.proofs.Cases.{by-test, by-result, by-choice, by-con}
-use Rattle.session.proofs.Judged.{id-fits, eui-fits, sixteen-long}
 
 -- numbers: from 64 bits, 0, and one below another that is not the last
 word-fits : (x : ℕ) → x < 2 ^ 64 → SFits w64 (signedOf 64 x)
@@ -46,7 +35,7 @@ zero-fits : SFits w64 (pos 0)
 zero-fits = record { sfits = omega arith }
 
 lowest-fits : (s : Session) → SFits w64 (s .lowest) → SFits w64 (lowestOf s)
-lowest-fits s f = go (below (pos 0) (s .lowest))
+lowest-fits s f = go (isBelow (pos 0) (s .lowest))
   where
     go : (b : Bool) → SFits w64 (either b (λ _. pos 0) (λ _. s .lowest))
     go true = zero-fits
@@ -149,9 +138,9 @@ module _ (s : Session) (g : Held s) where
   held-open : (k c : ℕ) (z : ℤ) → SFits w64 z → Holds (inOpen s k c z)
   unfolding inOpen
   held-open k c z f =
-      by-choice Holds (operationBy (λ o. o .start) stationStarts c) _ _ (λ o. by-test Holds (below (highestOf s) z) _ _ (held-start k o z (freePlace (s .station)) f) tt)
-      (by-choice Holds (operationBy (λ o. o .cmp) stationStarts c) _ _ (λ o. held-complete (placeOf z (o .start) (s .station)))
-      (by-choice Holds (operationBy (λ o. o .rsp) centreStarts c) _ _ (λ o. held-respond o z (placeOf z (o .start) (s .centre))) tt))
+      by-choice Holds (operationBy (λ o. o .start) stationStarts c) _ _ (λ o. by-test Holds (isBelow (highestOf s) z) _ _ (held-start k o z (freePlace (s .station)) f) tt)
+      (by-choice Holds (operationBy (λ o. o .cmp) stationStarts c) _ _ (λ o. held-complete (entryPlace z (o .start) (s .station)))
+      (by-choice Holds (operationBy (λ o. o .rsp) centreStarts c) _ _ (λ o. held-respond o z (entryPlace z (o .start) (s .centre))) tt))
 
   held-connecting : (c : ℕ) (z : ℤ) → Holds (inConnecting s c z)
   unfolding inConnecting

@@ -6,19 +6,14 @@ use mathlib.Core.List.{List, [], _∷_, _++_}
 use Prim.Native.Nat.{ℕ, zero, suc, _+_, _-_, _*_, _^_, _≤_, _<_}
 use native.Mathlib.Numerals.{add-one}
 use native.Mathlib.Omega.{arith}
-use lib.Dec.{eqb, ltb}
-use lib.IntN.{pos, negsuc}
+use lib.{Dec.eqb, Dec.ltb, IntN.pos, IntN.negsuc}
 use lib.ListN.{length, getD, take, drop, replicate, take-append-drop, length-drop}
 use lib.Seq.{take-add, drop-drop, drop-cons, length-take-le}
 use borrow.Author.Tests.{eqb-true, ltb-true, ltb-false, ne-eqb}
-use Rattle.octets.specs.Choice.{either}
-use Rattle.octets.specs.Bytes.{IsBytes}
-use Rattle.octets.specs.Signed.{bitsOf, signedOf}
-use Rattle.octets.proofs.Ranges.{true-false}
-use Rattle.octets.proofs.Widths.{little-below}
-use Rattle.octets.proofs.Digits.{little-again}
+use Rattle.octets.specs.{Choice.either, Bytes.IsBytes, Bytes.markByte, Signed.bitsOf, Signed.signedOf}
+use Rattle.octets.proofs.{Ranges.true-false, Widths.little-below, Digits.little-again}
 use Rattle.session.specs.Session.{Session}
-use Rattle.session.specs.Image.{stateByte, stateOf, markByte, idsOf, kindsOf, wordsOf, bytesOf, wordBytes, sessionImage, wordAt, entriesAt, sessionAt, areZeros, isSession}
+use Rattle.session.specs.Image.{stateByte, stateOf, idsOf, kindsOf, wordsOf, tailOf, wordBytes, sessionImage, wordAt, entriesAt, sessionAt, areZeros, isSession}
 
 -- what the test says of the bytes
 pub record Tested (d : List ℕ) : Type 0 where
@@ -129,7 +124,7 @@ module _ (d : List ℕ) (bytes : IsBytes d) where
         (ap₂ (λ (x : ℕ) (xs : List ℕ). x ∷ xs) (mark-again (getD d 345 0) (t .stored)) (sym z))
         ∙ sym (drop-cons d 344 0 (omega arith) ∙ ap (λ (l : List ℕ). getD d 344 0 ∷ l) (drop-cons d 345 0 (omega arith)))
 
-    bytes-is : bytesOf (sessionAt d) ≡ drop 280 d
+    bytes-is : tailOf (sessionAt d) ≡ drop 280 d
     unfolding sessionAt
     bytes-is =
         ap₂ (λ (x y : List ℕ). x ++ y) (kinds-again 24 280 16 (omega arith))

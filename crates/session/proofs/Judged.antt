@@ -1,31 +1,21 @@
 -- What the judgement of a record says of what a session takes from it: its ID has 64 bits, and a con's bsEui too. Each is mandatory in the command's
 -- list, so the range of its kind holds. A con's snBsUuid has 16 bytes. Assumes nothing.
 use mathlib.Core.Path.{_≡_, refl, subst, _∙_}
-use mathlib.Core.Bool.{Bool, true, false}
-use mathlib.Core.List.{List, [], _∷_}
+use mathlib.Core.{Bool.Bool, Bool.true, Bool.false, List.List, List.[], List._∷_}
 use Prim.Native.Nat.{ℕ, zero, suc, _^_, _<_}
 use native.Mathlib.Omega.{arith}
-use lib.Dec.{T, leb→le}
-use lib.IntN.{ℤ, pos, negsuc}
-use lib.ListN.{length, drop, length-append}
+use lib.{Dec.T, Dec.leb→le, IntN.ℤ, IntN.pos, IntN.negsuc, ListN.length, ListN.drop, ListN.length-append}
 use mir.Syntax.{w64}
 use mir.Val.{SFits}
 use borrow.Author.Tests.{eqb-true}
-use Rattle.octets.specs.Bytes.{bigBytes}
-use Rattle.octets.specs.Choice.{either}
+use Rattle.octets.specs.{Bytes.bigBytes, Choice.either}
 use Rattle.octets.proofs.Digits.{length-big}
 use Rattle.field.specs.Judge.{inRange}
-use Rattle.field.specs.Kind.{kinds, kindIn}
 use Rattle.message.specs.Fields.{Field, headed, lists, listIn, fieldsOf}
-use Rattle.saying.specs.Says.{Part, partIn}
-use Rattle.saying.specs.Fits.{within, fieldFits}
-use Rattle.record.specs.declared.Con.{Con}
-use Rattle.record.specs.declared.Sixteen.{Sixteen}
-use Rattle.record.specs.declared.Body.{Body}
-use Rattle.record.specs.declared.Message.{Message}
-use Rattle.record.specs.Record.{commandIn}
-use Rattle.record.specs.Says.{sixteenBytes, bodyRows, rowsOf, partOf}
-use Rattle.record.specs.Fits.{firstFault, faultIn, fits}
+use Rattle.saying.specs.{Says.Part, Says.partIn, Fits.within, Fits.fieldFits}
+use Rattle.record.specs.declared.{Con.Con, Sixteen.Sixteen, Body.Body, Message.Message}
+use Rattle.record.specs.{Record.commandIn, Fits.firstFault, Fits.faultIn, Fits.fits}
+use Rattle.record.specs.Says.{sixteenBytes, bodySayings, sayingsOf, partOf}
 
 -- every list begins with command and opId
 abbrev AllHeaded : List (List Field) → Type 0
@@ -70,14 +60,14 @@ module _ (m : Message) (d : List ℕ) (t : fits m d ≡ true) where
   faultless = eqb-true (faultIn m d) 0 t
 
   pub id-fits : SFits w64 (m .«op_id»)
-  unfolding within rowsOf partIn kinds kindIn
+  unfolding within sayingsOf partIn
   id-fits =
       let l = drop 2 (fieldsOf (commandIn (m .body))) in
       let behind = first-fits (partOf m d) 0 _ _ (subst (Faultless (partOf m d) 0) (fields-headed (commandIn (m .body))) faultless) .1 in
       in-64 (m .«op_id») (first-fits (partOf m d) 1 _ l behind .0)
 
   pub eui-fits : (x : Con) → m .body ≡ Body.Con x → x .«bs_eui» < 2 ^ 64
-  unfolding within rowsOf bodyRows partIn lists listIn kinds kindIn
+  unfolding within sayingsOf bodySayings partIn lists listIn
   eui-fits x e =
       let p = partOf (withBody (Body.Con x)) d in
       let all : Faultless p 0 (fieldsOf 0) = subst (λ (b : Body). Faultless (partOf (withBody b) d) 0 (fieldsOf (commandIn b))) e faultless in

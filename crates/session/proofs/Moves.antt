@@ -2,23 +2,17 @@
 -- it or set it beyond what it was. By cases on each step, then by induction over the run. Assumes nothing.
 use mathlib.Core.Path.{_≡_, refl, sym, subst}
 use mathlib.Core.Bool.{Bool, true, false, _&&_}
-use mathlib.Core.List.{List, [], _∷_}
-use mathlib.Core.Logic.{_⊎_, inl, inr}
-use mathlib.Core.Option.{Option, some, none}
+use mathlib.Core.{List.List, List.[], List._∷_, Logic._⊎_, Logic.inl, Logic.inr, Option.Option, Option.some, Option.none}
 use Prim.Native.Nat.{ℕ}
-use lib.Dec.{T, eqb}
-use lib.IntN.{ℤ, pos}
+use lib.{Dec.T, Dec.eqb, IntN.ℤ, IntN.pos}
 use Rattle.octets.specs.Choice.{either}
 use Rattle.names.specs.Names.{bytes, commandOf}
-use Rattle.record.specs.declared.Con.{Con}
-use Rattle.record.specs.declared.Message.{Message}
+use Rattle.record.specs.declared.{Con.Con, Message.Message}
 use Rattle.record.specs.Fits.{fits}
 use Rattle.session.specs.Session.{State, Entry, Session, Host}
-use Rattle.session.specs.Session.State.{Waiting, Connecting, Open}
-use Rattle.session.specs.Place.{sameId, placeOf, freed}
-use Rattle.session.specs.Kinds.{Operation}
-use Rattle.session.specs.Arrive.{Outcome, resumes, resumed, begun, orElse, inWaiting, opened, inConnecting, withStation, withCentre, completeAt, respondAt}
-use Rattle.session.specs.Centre.{stored, lostIn, lost}
+use Rattle.session.specs.{Session.State.Waiting, Session.State.Connecting, Session.State.Open, Place.sameId, Place.entryPlace, Place.freed}
+use Rattle.session.specs.{Kinds.Operation, Centre.stored, Centre.lostIn, Centre.lost}
+use Rattle.session.specs.Arrive.{Outcome, resumes, resumed, begun, orOutcome, inWaiting, opened, inConnecting, withStation, withCentre, completeAt, respondAt}
 use Rattle.session.specs.Run.{Event, reached, after, hasBegun, beginsAnew, Beyond, latest, Ordered}
 use Rattle.session.proofs.Cases.{by-test, by-choice, by-con}
 
@@ -72,10 +66,10 @@ module _ (f : Session → ℤ) (S : Steady f) (s : Session) where
 
   -- a Cmp, a Rsp, and what is neither
   pub ending-keeps : (z : ℤ) (c r : Option Operation)
-      → Keeps (orElse c (λ o. completeAt s (placeOf z (o .start) (s .station))) (λ _. orElse r (λ o. respondAt s o z (placeOf z (o .start) (s .centre))) (λ _. Outcome.refused 17)))
+      → Keeps (orOutcome c (λ o. completeAt s (entryPlace z (o .start) (s .station))) (λ _. orOutcome r (λ o. respondAt s o z (entryPlace z (o .start) (s .centre))) (λ _. Outcome.refused 17)))
   ending-keeps z c r =
-      by-choice Keeps c _ _ (λ o. completes (placeOf z (o .start) (s .station)))
-      (by-choice Keeps r _ _ (λ o. responds o z (placeOf z (o .start) (s .centre))) refl)
+      by-choice Keeps c _ _ (λ o. completes (entryPlace z (o .start) (s .station)))
+      (by-choice Keeps r _ _ (λ o. responds o z (entryPlace z (o .start) (s .centre))) refl)
 
 -- a step leaves the number, or sets it beyond what it was; or a new session begins with 0
 module _ (f : Session → ℤ) (beyond : ℤ → ℤ → Bool) where

@@ -1,9 +1,6 @@
 -- The places of one side: the first that passes a test is among them and passes it, none before it does; a table keeps its length; taking a free
 -- place opens one entry more, and freeing one that is open leaves one fewer. By induction over the places. Assumes nothing.
-use mathlib.Core.Path.{_≡_, refl, ap}
-use mathlib.Core.Bool.{Bool, true, false}
-use mathlib.Core.List.{List, [], _∷_}
-use mathlib.Core.Option.{some, none}
+use mathlib.Core.{Path._≡_, Path.refl, Path.ap, Bool.Bool, Bool.true, Bool.false, List.List, List.[], List._∷_, Option.some, Option.none}
 use Prim.Native.Nat.{ℕ, zero, suc, _+_, _-_, _≤_, _<_}
 use native.Mathlib.Omega.{arith}
 use lib.ListN.{length, set, getD}

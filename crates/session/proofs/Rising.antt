@@ -1,30 +1,23 @@
 -- The IDs of stations' starts rise, and the centre's fall, through any run, resumes and refused steps among it; only a new session begins them
 -- anew. A start is accepted only above the highest ID known, which then is its ID; the centre issues the ID one below its lowest; nothing else
 -- changes the two. Assumes nothing.
-use mathlib.Core.Path.{_≡_, refl, subst}
+use mathlib.Core.{Path._≡_, Path.refl, Path.subst, List.List, Option.Option, Option.some, Option.none}
 use mathlib.Core.Bool.{Bool, true, false, _&&_}
-use mathlib.Core.List.{List}
-use mathlib.Core.Option.{Option, some, none}
 use Prim.Native.Nat.{ℕ, suc}
 use native.Mathlib.Omega.{arith}
-use lib.Dec.{T, lt→ltb}
-use lib.IntN.{ℤ, pos, negsuc}
+use lib.{Dec.T, Dec.lt→ltb, IntN.ℤ, IntN.pos, IntN.negsuc}
 use borrow.Author.Tests.{le-ltb}
 use Rattle.octets.specs.Choice.{either}
 use Rattle.record.specs.declared.Message.{Message}
-use Rattle.record.specs.Record.{fourOf, commandIn}
-use Rattle.record.specs.Fits.{fits}
-use Rattle.session.specs.Session.{State, Session, Host}
-use Rattle.session.specs.Session.State.{Waiting, Connecting, Open}
-use Rattle.session.specs.Place.{sameId, freePlace}
+use Rattle.record.specs.{Record.fourOf, Record.commandIn, Fits.fits}
+use Rattle.session.specs.{Session.State, Session.Session, Session.Host, Session.State.Waiting, Session.State.Connecting, Session.State.Open}
+use Rattle.session.specs.{Place.sameId, Place.freePlace}
 use Rattle.session.specs.Kinds.{Operation, stationStarts, centreStarts, operationBy}
-use Rattle.session.specs.Arrive.{Outcome, below, highestOf, lowestOf, startAt, starts, inOpen, inState, arrives}
+use Rattle.session.specs.Arrive.{Outcome, isBelow, highestOf, lowestOf, startAt, starts, inOpen, inState, arrives}
 use Rattle.session.specs.Centre.{oneBelow, lastId, underId, beginAt, kindBegins, ifOpen, centreBegins}
 use Rattle.session.specs.Run.{Event, reached, after, ifDone, whileOpen, ifStart, acceptedIn, issuedIn, isWaiting, hasBegun, beginsAnew, Rising, Falling}
-use Rattle.session.proofs.Cases.{by-test, by-result, by-choice}
+use Rattle.session.proofs.{Cases.by-test, Cases.by-result, Cases.by-choice, Moves.Moves.kept, Moves.Moves.moved, Moves.Goes.on}
 use Rattle.session.proofs.Moves.{Steady, Keeps, Moves, Goes, lost-keeps, waited, connecting-keeps, ending-keeps, from-waited, ordered}
-use Rattle.session.proofs.Moves.Moves.{kept, moved}
-use Rattle.session.proofs.Moves.Goes.{on}
 
 highest-steady : Steady highestOf
 highest-steady = record { beginning = λ h x. refl; resuming = λ s. refl; opening = λ s. refl; storing = λ s. refl; completing = λ s t. refl; responding = λ s t. refl }
@@ -33,24 +26,24 @@ lowest-steady : Steady lowestOf
 lowest-steady = record { beginning = λ h x. refl; resuming = λ s. refl; opening = λ s. refl; storing = λ s. refl; completing = λ s t. refl; responding = λ s t. refl }
 
 -- what is above the highest is above zero
-above-zero : (h z : ℤ) → T (below (either (below h (pos 0)) (λ _. pos 0) (λ _. h)) z) → below z (pos 0) ≡ false
+above-zero : (h z : ℤ) → T (isBelow (either (isBelow h (pos 0)) (λ _. pos 0) (λ _. h)) z) → isBelow z (pos 0) ≡ false
 above-zero h (pos n) t = le-ltb n 0 (omega arith)
-above-zero (pos a) (negsuc k) t = absurd (subst (λ (b : Bool). T (below (either b (λ _. pos 0) (λ _. pos a)) (negsuc k))) (le-ltb a 0 (omega arith)) t)
+above-zero (pos a) (negsuc k) t = absurd (subst (λ (b : Bool). T (isBelow (either b (λ _. pos 0) (λ _. pos a)) (negsuc k))) (le-ltb a 0 (omega arith)) t)
 above-zero (negsuc a) (negsuc k) t = absurd t
 
 abbrev Raises : Session → Session → Option ℤ → Type 0
-Raises s t o = Moves highestOf below s t o
+Raises s t o = Moves highestOf isBelow s t o
 
 module _ (s : Session) (m : Message) (d : List ℕ) (h : Host) where
   abbrev Raised : Outcome → Type 0
   Raised o = Raises s (reached s o) (ifDone o (m .«op_id»))
 
-  started : (o : Operation) (p : Option ℕ) → T (below (highestOf s) (m .«op_id»)) → Raised (startAt s (fourOf (h .sign)) o (m .«op_id») p)
+  started : (o : Operation) (p : Option ℕ) → T (isBelow (highestOf s) (m .«op_id»)) → Raised (startAt s (fourOf (h .sign)) o (m .«op_id») p)
   started o none t = kept refl
   started o (some i) t = moved (m .«op_id») t (rw (above-zero (s .highest) (m .«op_id») t))
 
   start-raises : (o : Operation) → Raised (starts s (fourOf (h .sign)) o (m .«op_id»))
-  start-raises o = by-result Raised (below (highestOf s) (m .«op_id»)) _ _ (λ e. started o (freePlace (s .station)) (rw e tt)) (λ e. kept refl)
+  start-raises o = by-result Raised (isBelow (highestOf s) (m .«op_id»)) _ _ (λ e. started o (freePlace (s .station)) (rw e tt)) (λ e. kept refl)
 
   open-raises : (p : Option Operation) → operationBy (λ o. o .start) stationStarts (commandIn (m .body)) ≡ p → Raises s (reached s (inOpen s (fourOf (h .sign)) (commandIn (m .body)) (m .«op_id»))) (ifStart p (ifDone (inOpen s (fourOf (h .sign)) (commandIn (m .body)) (m .«op_id»)) (m .«op_id»)))
   unfolding inOpen
@@ -78,12 +71,12 @@ module _ (s : Session) (m : Message) (d : List ℕ) (h : Host) where
   opened-raises true = open-raises (operationBy (λ o. o .start) stationStarts (commandIn (m .body))) refl
   opened-raises false = rw (unfit Open (operationBy (λ o. o .start) stationStarts (commandIn (m .body)))) (kept refl)
 
-  state-raises : (x : State) → Goes highestOf below s (reached s (judged x (fits m d))) (isWaiting x && hasBegun (judged x (fits m d))) (accepted x (fits m d))
-  state-raises Waiting = from-waited highestOf below highest-steady s (judged Waiting (fits m d)) (waited highestOf highest-steady s m d h)
+  state-raises : (x : State) → Goes highestOf isBelow s (reached s (judged x (fits m d))) (isWaiting x && hasBegun (judged x (fits m d))) (accepted x (fits m d))
+  state-raises Waiting = from-waited highestOf isBelow highest-steady s (judged Waiting (fits m d)) (waited highestOf highest-steady s m d h)
   state-raises Connecting = on none (connecting-raises (fits m d))
   state-raises Open = on (accepted Open (fits m d)) (opened-raises (fits m d))
 
-  arrival-raises : Goes highestOf below s (after s (Event.arrival m d h)) (beginsAnew s (Event.arrival m d h)) (acceptedIn s (Event.arrival m d h))
+  arrival-raises : Goes highestOf isBelow s (after s (Event.arrival m d h)) (beginsAnew s (Event.arrival m d h)) (acceptedIn s (Event.arrival m d h))
   unfolding arrives
   arrival-raises = state-raises (s .state)
 
@@ -96,7 +89,7 @@ module _ (s : Session) (m : Message) (d : List ℕ) (h : Host) where
   place-keeps o (some i) = refl
 
   start-keeps : (o : Operation) → Keeps-lowest (starts s (fourOf (h .sign)) o (m .«op_id»))
-  start-keeps o = by-test Keeps-lowest (below (highestOf s) (m .«op_id»)) _ _ (place-keeps o (freePlace (s .station))) refl
+  start-keeps o = by-test Keeps-lowest (isBelow (highestOf s) (m .«op_id»)) _ _ (place-keeps o (freePlace (s .station))) refl
 
   open-keeps : Keeps-lowest (inOpen s (fourOf (h .sign)) (commandIn (m .body)) (m .«op_id»))
   unfolding inOpen
@@ -110,26 +103,26 @@ module _ (s : Session) (m : Message) (d : List ℕ) (h : Host) where
   opened-keeps : Keeps-lowest (judged Open (fits m d))
   opened-keeps = by-test Keeps-lowest (fits m d) _ _ open-keeps refl
 
-  state-keeps : (x : State) → Goes lowestOf (λ a z. below z a) s (reached s (judged x (fits m d))) (isWaiting x && hasBegun (judged x (fits m d))) none
-  state-keeps Waiting = from-waited lowestOf (λ a z. below z a) lowest-steady s (judged Waiting (fits m d)) (waited lowestOf lowest-steady s m d h)
+  state-keeps : (x : State) → Goes lowestOf (λ a z. isBelow z a) s (reached s (judged x (fits m d))) (isWaiting x && hasBegun (judged x (fits m d))) none
+  state-keeps Waiting = from-waited lowestOf (λ a z. isBelow z a) lowest-steady s (judged Waiting (fits m d)) (waited lowestOf lowest-steady s m d h)
   state-keeps Connecting = on none (kept connecting-lowers)
   state-keeps Open = on none (kept opened-keeps)
 
-  arrival-keeps : Goes lowestOf (λ a z. below z a) s (after s (Event.arrival m d h)) (beginsAnew s (Event.arrival m d h)) none
+  arrival-keeps : Goes lowestOf (λ a z. isBelow z a) s (after s (Event.arrival m d h)) (beginsAnew s (Event.arrival m d h)) none
   unfolding arrives
   arrival-keeps = state-keeps (s .state)
 
 -- one below is below, and below zero
-one-below : (z : ℤ) → T (below (oneBelow z) z)
+one-below : (z : ℤ) → T (isBelow (oneBelow z) z)
 one-below (pos n) = tt
 one-below (negsuc k) = lt→ltb k (suc k) (omega arith)
 
-still-lowest : (z : ℤ) → below (pos 0) (oneBelow z) ≡ false
+still-lowest : (z : ℤ) → isBelow (pos 0) (oneBelow z) ≡ false
 still-lowest (pos n) = refl
 still-lowest (negsuc k) = refl
 
 abbrev Lowers : Session → Session → Option ℤ → Type 0
-Lowers s t o = Moves lowestOf (λ a z. below z a) s t o
+Lowers s t o = Moves lowestOf (λ a z. isBelow z a) s t o
 
 module _ (s : Session) (m : Message) (d : List ℕ) where
   abbrev issued : ℤ
@@ -165,13 +158,13 @@ module _ (s : Session) (m : Message) (d : List ℕ) where
       by-choice Keeps-highest (operationBy (λ o. o .start) centreStarts (commandIn (m .body))) _ _
       (λ o. by-test Keeps-highest (sameId (lowestOf s) lastId) _ _ refl (issue-keeps o (freePlace (s .centre)))) refl
 
-step-raises : (s : Session) (e : Event) → Goes highestOf below s (after s e) (beginsAnew s e) (acceptedIn s e)
+step-raises : (s : Session) (e : Event) → Goes highestOf isBelow s (after s e) (beginsAnew s e) (acceptedIn s e)
 unfolding centreBegins
 step-raises s (Event.arrival m d h) = arrival-raises s m d h
 step-raises s (Event.beginning m d) = on none (kept (centre-keeps s m d (s .state)))
 step-raises s Event.loss = on none (kept (lost-keeps highestOf highest-steady s))
 
-step-lowers : (s : Session) (e : Event) → Goes lowestOf (λ a z. below z a) s (after s e) (beginsAnew s e) (issuedIn s e)
+step-lowers : (s : Session) (e : Event) → Goes lowestOf (λ a z. isBelow z a) s (after s e) (beginsAnew s e) (issuedIn s e)
 unfolding centreBegins
 step-lowers s (Event.arrival m d h) = arrival-keeps s m d h
 step-lowers s (Event.beginning m d) = on (issuedIn s (Event.beginning m d)) (centre-lowers s m d (s .state))
@@ -179,8 +172,8 @@ step-lowers s Event.loss = on none (kept (lost-keeps lowestOf lowest-steady s))
 
 -- the stations' IDs rise, from any session on, the empty one among them
 pub ids-rise : (s : Session) (es : List Event) → Rising s es
-ids-rise s es = ordered highestOf below acceptedIn step-raises s es
+ids-rise s es = ordered highestOf isBelow acceptedIn step-raises s es
 
 -- the centre's fall
 pub ids-fall : (s : Session) (es : List Event) → Falling s es
-ids-fall s es = ordered lowestOf (λ a z. below z a) issuedIn step-lowers s es
+ids-fall s es = ordered lowestOf (λ a z. isBelow z a) issuedIn step-lowers s es

@@ -8,14 +8,10 @@ use native.Mathlib.Omega.{arith}
 use lib.IntN.{ℤ}
 use lib.ListN.{length, getD, set, take, drop, replicate, length-append, length-map, length-set}
 use lib.Seq.{set-append-left, set-split, split-at, take-at, drop-at, drop-append-add, length-take-le}
-use Rattle.octets.specs.Bytes.{littleBytes, putAt}
-use Rattle.octets.specs.Signed.{bitsOf}
-use Rattle.octets.proofs.Digits.{length-little}
-use Rattle.octets.proofs.Writing.{put-in}
-use Rattle.session.specs.Session.{State, Entry, Session}
-use Rattle.session.specs.Place.{entry}
-use Rattle.session.specs.Arrive.{moved, withStation, withCentre}
-use Rattle.session.specs.Image.{stateByte, markByte, idsOf, kindsOf, wordsOf, bytesOf, wordBytes, sessionImage}
+use Rattle.octets.specs.{Bytes.littleBytes, Bytes.putAt, Bytes.markByte, Signed.bitsOf}
+use Rattle.octets.proofs.{Digits.length-little, Writing.put-in}
+use Rattle.session.specs.{Session.State, Session.Entry, Session.Session, Place.entry, Arrive.moved, Arrive.withStation, Arrive.withCentre}
+use Rattle.session.specs.Image.{stateByte, idsOf, kindsOf, wordsOf, tailOf, wordBytes, sessionImage}
 use Rattle.session.proofs.Image.{Sized}
 
 -- a part of a list in place of another of its length
@@ -102,14 +98,14 @@ module _ (s : Session) (g : Sized s) where
   words-end = ap (λ (k : ℕ). 8 * k) words-count
 
   -- a word of the session, and a byte of it
-  word-stored : (t : Session) (j x : ℕ) → j < 35 → wordsOf t ≡ set (wordsOf s) j x → bytesOf t ≡ bytesOf s → putAt (sessionImage s) (8 * j) (littleBytes 8 x) ≡ sessionImage t
+  word-stored : (t : Session) (j x : ℕ) → j < 35 → wordsOf t ≡ set (wordsOf s) j x → tailOf t ≡ tailOf s → putAt (sessionImage s) (8 * j) (littleBytes 8 x) ≡ sessionImage t
   unfolding sessionImage
   word-stored t j x h e f =
-      word-put (wordsOf s) (bytesOf s) j x (omega (arith, words-count)) ∙ sym (ap₂ (λ (ws bs : List ℕ). wordBytes ws ++ bs) e f)
+      word-put (wordsOf s) (tailOf s) j x (omega (arith, words-count)) ∙ sym (ap₂ (λ (ws bs : List ℕ). wordBytes ws ++ bs) e f)
 
-  byte-stored : (t : Session) (j v : ℕ) → wordsOf t ≡ wordsOf s → bytesOf t ≡ set (bytesOf s) j v → set (sessionImage s) (280 + j) v ≡ sessionImage t
+  byte-stored : (t : Session) (j v : ℕ) → wordsOf t ≡ wordsOf s → tailOf t ≡ set (tailOf s) j v → set (sessionImage s) (280 + j) v ≡ sessionImage t
   unfolding sessionImage
-  byte-stored t j v e f = byte-put (wordsOf s) (bytesOf s) 280 j v words-end ∙ sym (ap₂ (λ (ws bs : List ℕ). wordBytes ws ++ bs) e f)
+  byte-stored t j v e f = byte-put (wordsOf s) (tailOf s) 280 j v words-end ∙ sym (ap₂ (λ (ws bs : List ℕ). wordBytes ws ++ bs) e f)
 
   -- the highest station ID known, and the lowest centre ID issued
   pub highest-stored : (z : ℤ) → putAt (sessionImage s) 8 (littleBytes 8 (bitsOf 64 z)) ≡ sessionImage (withStation s z (s .station))
@@ -119,13 +115,13 @@ module _ (s : Session) (g : Sized s) where
   lowest-stored z = word-stored (withCentre s z (s .centre)) 2 (bitsOf 64 z) (omega arith) refl refl
 
   -- an ID among the words and a kind among the bytes
-  entry-stored : (t : Session) (j x p v : ℕ) → j < 35 → wordsOf t ≡ set (wordsOf s) j x → bytesOf t ≡ set (bytesOf s) p v
+  entry-stored : (t : Session) (j x p v : ℕ) → j < 35 → wordsOf t ≡ set (wordsOf s) j x → tailOf t ≡ set (tailOf s) p v
       → set (putAt (sessionImage s) (8 * j) (littleBytes 8 x)) (280 + p) v ≡ sessionImage t
   unfolding sessionImage
   entry-stored t j x p v h e f =
       let n : 8 * length (set (wordsOf s) j x) ≡ 280 = ap (λ (k : ℕ). 8 * k) (length-set (wordsOf s) j x) ∙ words-end in
-      ap (λ (l : List ℕ). set l (280 + p) v) (word-put (wordsOf s) (bytesOf s) j x (omega (arith, words-count)))
-      ∙ byte-put (set (wordsOf s) j x) (bytesOf s) 280 p v n ∙ sym (ap₂ (λ (ws bs : List ℕ). wordBytes ws ++ bs) e f)
+      ap (λ (l : List ℕ). set l (280 + p) v) (word-put (wordsOf s) (tailOf s) j x (omega (arith, words-count)))
+      ∙ byte-put (set (wordsOf s) j x) (tailOf s) 280 p v n ∙ sym (ap₂ (λ (ws bs : List ℕ). wordBytes ws ++ bs) e f)
 
   module _ (i : ℕ) (h : i < 16) (z : ℤ) (k : ℕ) where
     pub station-stored : set (putAt (sessionImage s) (24 + 8 * i) (littleBytes 8 (bitsOf 64 z))) (280 + i) k ≡ sessionImage (withStation s (s .highest) (set (s .station) i (entry z k)))

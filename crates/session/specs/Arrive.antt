@@ -1,23 +1,15 @@
 -- Document 01, "Session": what a session answers to a record that arrives.
 use Prim.Native.Nat.{ℕ}
 use mathlib.Core.Bool.{Bool, true, false, not, _&&_, _||_}
-use mathlib.Core.List.{List, []}
-use mathlib.Core.Option.{Option, some, none}
-use lib.Dec.{eqb}
-use lib.IntN.{ℤ, pos}
-use lib.Signed.{ltZ}
+use mathlib.Core.{List.List, List.[], Option.Option, Option.some, Option.none}
+use lib.{Dec.eqb, IntN.ℤ, IntN.pos, Signed.ltZ}
 use Rattle.octets.specs.Choice.{either}
 use Rattle.names.specs.Names.{bytes, sameBytes, commandOf}
-use Rattle.record.specs.declared.Sixteen.{Sixteen}
-use Rattle.record.specs.declared.Con.{Con}
-use Rattle.record.specs.declared.Body.{Body}
-use Rattle.record.specs.declared.Message.{Message}
-use Rattle.record.specs.Record.{fourOf, sixteenOf, commandIn}
-use Rattle.record.specs.Says.{sixteenBytes}
-use Rattle.record.specs.Fits.{fits}
+use Rattle.record.specs.declared.{Sixteen.Sixteen, Con.Con, Body.Body, Message.Message}
+use Rattle.record.specs.{Record.fourOf, Record.sixteenOf, Record.commandIn, Says.sixteenBytes, Fits.fits}
 use Rattle.session.specs.Session.{State, Entry, Session, Host}
 use Rattle.session.specs.Session.State.{Waiting, Connecting, Open}
-use Rattle.session.specs.Place.{sameId, freePlace, placeOf, taken, freed, allFree}
+use Rattle.session.specs.Place.{sameId, freePlace, entryPlace, taken, freed, allFree}
 use Rattle.session.specs.Kinds.{Operation, stationStarts, centreStarts, operationBy}
 use Rattle.session.specs.Happened.{isBegun, isResumed, isOpened, isStarted, isCompleted, isAnswered}
 
@@ -28,23 +20,23 @@ pub data Outcome : Type 0 where
   replies : ℕ → Session → Message → List ℕ → Outcome
 
 -- a is below b
-abbrev pub below : ℤ → ℤ → Bool
-below a b = ltZ a b
+abbrev pub isBelow : ℤ → ℤ → Bool
+isBelow a b = ltZ a b
 
 -- before any, both count as 0, as do a negative highest or a positive lowest handed in
 abbrev pub highestOf : Session → ℤ
-highestOf s = either (below (s .highest) (pos 0)) (λ _. pos 0) (λ _. s .highest)
+highestOf s = either (isBelow (s .highest) (pos 0)) (λ _. pos 0) (λ _. s .highest)
 
 abbrev pub lowestOf : Session → ℤ
-lowestOf s = either (below (pos 0) (s .lowest)) (λ _. pos 0) (λ _. s .lowest)
+lowestOf s = either (isBelow (pos 0) (s .lowest)) (λ _. pos 0) (λ _. s .lowest)
 
 -- a message that has nothing more than its ID
 abbrev pub bareOf : ℕ → ℤ → Message
 bareOf c z = record { «op_id» = z; body = Body.Bare c }
 
 -- conRsp: version 1.0.0, the host's scEui, whether it resumed, the session's centre UUID
-abbrev pub conRspOf : ℕ → Bool → Sixteen → Message
-conRspOf eui resumed uuid =
+abbrev pub conRspWith : ℕ → Bool → Sixteen → Message
+conRspWith eui resumed uuid =
     record {
       «op_id» = pos 0;
       body = Body.ConRsp (record { version = record { here = true; major = 1; minor = 0; patch = 0 }; «sc_eui» = eui; «sn_resume» = resumed; «sn_sc_uuid» = uuid });
@@ -64,8 +56,8 @@ resumes s x =
     s .stored
     && (eqb (s .bsEui) (x .«bs_eui»)
     && (sameBytes (s .snBsUuid) (sixteenBytes (x .«sn_bs_uuid»))
-    && ((not (x .«sn_bs_op_id» .here) || not (below (highestOf s) (x .«sn_bs_op_id» .value)))
-    && (not (x .«sn_sc_op_id» .here) || not (below (x .«sn_sc_op_id» .value) (lowestOf s))))))
+    && ((not (x .«sn_bs_op_id» .here) || not (isBelow (highestOf s) (x .«sn_bs_op_id» .value)))
+    && (not (x .«sn_sc_op_id» .here) || not (isBelow (x .«sn_sc_op_id» .value) (lowestOf s))))))
 
 -- the session as it is, in another state, stored or not
 abbrev pub moved : State → Bool → Session → Session
@@ -84,8 +76,8 @@ begun h x = begunWith (x .«bs_eui») (sixteenBytes (x .«sn_bs_uuid»)) (h .uui
 abbrev pub connects : Session → Con → Host → Outcome
 connects s x h =
     either (resumes s x)
-    (λ _. Outcome.replies isResumed (resumed s) (conRspOf (h .scEui) true (sixteenOf (s .snScUuid))) [])
-    (λ _. Outcome.replies isBegun (begun h x) (conRspOf (h .scEui) false (sixteenOf (h .uuid))) [])
+    (λ _. Outcome.replies isResumed (resumed s) (conRspWith (h .scEui) true (sixteenOf (s .snScUuid))) [])
+    (λ _. Outcome.replies isBegun (begun h x) (conRspWith (h .scEui) false (sixteenOf (h .uuid))) [])
 
 abbrev pub conIn : Body → Option Con
 conIn (Body.Con x) = some x
@@ -98,9 +90,9 @@ conIn (Body.DetPrp eui) = none
 conIn (Body.UlData x) = none
 conIn (Body.Bare c) = none
 
-abbrev pub orElse : {A : Type 0} → Option A → (A → Outcome) → (Unit {0} → Outcome) → Outcome
-orElse none f g = g tt
-orElse (some a) f g = f a
+abbrev pub orOutcome : {A : Type 0} → Option A → (A → Outcome) → (Unit {0} → Outcome) → Outcome
+orOutcome none f g = g tt
+orOutcome (some a) f g = f a
 
 -- waiting takes only con; tests 17, 18 (opId must be 0), 16
 abbrev pub takesCon : Session → ℤ → Con → Host → Outcome
@@ -110,7 +102,7 @@ takesCon s z x h =
     (λ _. Outcome.refused 18)
 
 unfoldable pub inWaiting : Session → Message → Host → Outcome
-inWaiting s m h = orElse (conIn (m .body)) (λ x. takesCon s (m .«op_id») x h) (λ _. Outcome.refused 17)
+inWaiting s m h = orOutcome (conIn (m .body)) (λ x. takesCon s (m .«op_id») x h) (λ _. Outcome.refused 17)
 
 -- conCmp with ID 0 opens; all else is 17
 abbrev pub opened : Session → Session
@@ -131,7 +123,7 @@ startAt s sign o z none = Outcome.refused 19
 startAt s sign o z (some i) = Outcome.replies isStarted (withStation s z (taken (s .station) i z (o .start))) (rspOf sign (o .rsp) z) []
 
 abbrev pub starts : Session → ℕ → Operation → ℤ → Outcome
-starts s sign o z = either (below (highestOf s) z) (λ _. startAt s sign o z (freePlace (s .station))) (λ _. Outcome.refused 18)
+starts s sign o z = either (isBelow (highestOf s) z) (λ _. startAt s sign o z (freePlace (s .station))) (λ _. Outcome.refused 18)
 
 -- the entry is freed by a Cmp of the same kind and ID
 abbrev pub completeAt : Session → Option ℕ → Outcome
@@ -146,9 +138,9 @@ respondAt s o z (some i) = Outcome.replies isAnswered (withCentre s (s .lowest) 
 -- a start, a Cmp, a Rsp; all else is 17
 unfoldable pub inOpen : Session → ℕ → ℕ → ℤ → Outcome
 inOpen s sign c z =
-    orElse (operationBy (λ o. o .start) stationStarts c) (λ o. starts s sign o z)
-    (λ _. orElse (operationBy (λ o. o .cmp) stationStarts c) (λ o. completeAt s (placeOf z (o .start) (s .station)))
-    (λ _. orElse (operationBy (λ o. o .rsp) centreStarts c) (λ o. respondAt s o z (placeOf z (o .start) (s .centre)))
+    orOutcome (operationBy (λ o. o .start) stationStarts c) (λ o. starts s sign o z)
+    (λ _. orOutcome (operationBy (λ o. o .cmp) stationStarts c) (λ o. completeAt s (entryPlace z (o .start) (s .station)))
+    (λ _. orOutcome (operationBy (λ o. o .rsp) centreStarts c) (λ o. respondAt s o z (entryPlace z (o .start) (s .centre)))
     (λ _. Outcome.refused 17)))
 
 abbrev pub inState : State → Session → Message → Host → Outcome

@@ -1,19 +1,13 @@
 -- Document 01, "Session": what the centre starts, and a lost connection.
 use Prim.Native.Nat.{ℕ, suc, _-_, _^_}
-use mathlib.Core.Bool.{true}
-use mathlib.Core.List.{List}
-use mathlib.Core.Option.{Option, some, none}
+use mathlib.Core.{Bool.true, List.List, Option.Option, Option.some, Option.none}
 use lib.IntN.{ℤ, pos, negsuc}
 use Rattle.octets.specs.Choice.{either}
 use Rattle.record.specs.declared.Message.{Message}
-use Rattle.record.specs.Record.{commandIn}
-use Rattle.record.specs.Fits.{fits}
-use Rattle.session.specs.Session.{State, Session}
-use Rattle.session.specs.Session.State.{Waiting, Connecting, Open}
-use Rattle.session.specs.Place.{sameId, freePlace, taken}
-use Rattle.session.specs.Kinds.{Operation, centreStarts, operationBy}
-use Rattle.session.specs.Happened.{isIssued}
-use Rattle.session.specs.Arrive.{Outcome, moved, lowestOf, orElse, withCentre}
+use Rattle.record.specs.{Record.commandIn, Fits.fits}
+use Rattle.session.specs.{Session.State, Session.Session, Session.State.Waiting, Session.State.Connecting, Session.State.Open}
+use Rattle.session.specs.{Place.sameId, Place.freePlace, Place.taken, Kinds.Operation, Kinds.centreStarts, Kinds.operationBy, Happened.isIssued}
+use Rattle.session.specs.Arrive.{Outcome, moved, lowestOf, orOutcome, withCentre}
 
 -- the centre's IDs run downward from -1, each one below the last
 abbrev pub oneBelow : ℤ → ℤ
@@ -45,7 +39,7 @@ ifOpen Open f = f tt
 
 -- the centre starts ping, status, attPrp, detPrp; the message is written under the ID issued
 abbrev pub kindBegins : Session → ℕ → Message → List ℕ → Outcome
-kindBegins s c m d = orElse (operationBy (λ o. o .start) centreStarts c) (λ o. begins s o m d) (λ _. Outcome.refused 17)
+kindBegins s c m d = orOutcome (operationBy (λ o. o .start) centreStarts c) (λ o. begins s o m d) (λ _. Outcome.refused 17)
 
 unfoldable pub centreBegins : Session → Message → List ℕ → Outcome
 centreBegins s m d = ifOpen (s .state) (λ _. kindBegins s (commandIn (m .body)) m d)

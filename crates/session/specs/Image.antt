@@ -2,15 +2,10 @@
 use Prim.Native.Nat.{ℕ, zero, suc, _+_}
 use mathlib.Core.Bool.{Bool, true, _&&_, not}
 use mathlib.Core.List.{List, [], _∷_, _++_, map}
-use lib.Dec.{eqb, ltb}
-use lib.IntN.{ℤ}
+use lib.{Dec.eqb, Dec.ltb, IntN.ℤ}
 use lib.ListN.{length, getD, take, drop, replicate}
-use Rattle.octets.specs.Choice.{either}
-use Rattle.octets.specs.Number.{littleAt}
-use Rattle.octets.specs.Bytes.{littleBytes}
-use Rattle.octets.specs.Signed.{bitsOf, signedOf}
-use Rattle.session.specs.Session.{State, Entry, Session}
-use Rattle.session.specs.Session.State.{Waiting, Connecting, Open}
+use Rattle.octets.specs.{Number.littleAt, Bytes.littleBytes, Bytes.markByte, Signed.bitsOf, Signed.signedOf}
+use Rattle.session.specs.{Session.State, Session.Entry, Session.Session, Session.State.Waiting, Session.State.Connecting, Session.State.Open}
 
 -- the places of its parts, in the struct's order: words of eight bytes, little endian
 abbrev pub euiPlace : ℕ
@@ -68,9 +63,6 @@ stateOf zero = Waiting
 stateOf (suc zero) = Connecting
 stateOf (suc (suc n)) = Open
 
-abbrev pub markByte : Bool → ℕ
-markByte b = either b (λ _. 1) (λ _. 0)
-
 -- the words of a session, and its bytes
 abbrev pub idsOf : List Entry → List ℕ
 idsOf t = map (λ (e : Entry). bitsOf 64 (e .id)) t
@@ -81,8 +73,8 @@ kindsOf t = map (λ (e : Entry). e .kind) t
 abbrev pub wordsOf : Session → List ℕ
 wordsOf s = s .bsEui ∷ (bitsOf 64 (s .highest) ∷ (bitsOf 64 (s .lowest) ∷ (idsOf (s .station) ++ idsOf (s .centre))))
 
-abbrev pub bytesOf : Session → List ℕ
-bytesOf s =
+abbrev pub tailOf : Session → List ℕ
+tailOf s =
     kindsOf (s .station) ++ (kindsOf (s .centre) ++ (s .snBsUuid ++ (s .snScUuid ++ (stateByte (s .state) ∷ (markByte (s .stored) ∷ replicate spareSize 0)))))
 
 unfoldable pub wordBytes : List ℕ → List ℕ
@@ -91,7 +83,7 @@ wordBytes (x ∷ xs) = littleBytes 8 x ++ wordBytes xs
 
 -- the bytes of a session
 unfoldable pub sessionImage : Session → List ℕ
-sessionImage s = wordBytes (wordsOf s) ++ bytesOf s
+sessionImage s = wordBytes (wordsOf s) ++ tailOf s
 
 -- the session in the bytes
 abbrev pub wordAt : List ℕ → ℕ → ℕ

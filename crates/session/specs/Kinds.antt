@@ -1,8 +1,6 @@
 -- Document 01, "Session": which operations each side starts, and the messages that belong to each. Operations go by the command that starts them.
-use Prim.Native.Nat.{ℕ}
-use Prim.Native.String.{String}
-use mathlib.Core.List.{List, [], _∷_}
-use mathlib.Core.Option.{Option, some, none}
+use Prim.Native.{Nat.ℕ, String.String}
+use mathlib.Core.{List.List, List.[], List._∷_, Option.Option, Option.some, Option.none}
 use lib.Dec.{eqb}
 use Rattle.octets.specs.Choice.{either}
 use Rattle.names.specs.Names.{bytes, commandOf}

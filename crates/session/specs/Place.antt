@@ -2,11 +2,8 @@
 -- several matching entries the lowest.
 use Prim.Native.Nat.{ℕ, suc}
 use mathlib.Core.Bool.{Bool, false, not, _&&_}
-use mathlib.Core.List.{List, [], _∷_}
-use mathlib.Core.Option.{Option, some, none}
-use lib.Dec.{eqb}
-use lib.IntN.{ℤ, pos, negsuc}
-use lib.ListN.{set, replicate}
+use mathlib.Core.{List.List, List.[], List._∷_, Option.Option, Option.some, Option.none}
+use lib.{Dec.eqb, IntN.ℤ, IntN.pos, IntN.negsuc, ListN.set, ListN.replicate}
 use Rattle.octets.specs.Choice.{either}
 use Rattle.session.specs.Session.{Entry}
 
@@ -30,13 +27,8 @@ firstFrom f i (e ∷ t) = either (f e) (λ _. some i) (λ _. firstFrom f (suc i)
 abbrev pub freePlace : List Entry → Option ℕ
 freePlace t = firstFrom isFree 0 t
 
-abbrev pub placeOf : ℤ → ℕ → List Entry → Option ℕ
-placeOf z k t = firstFrom (matches z k) 0 t
-
--- a place as the code has it: 16 is none
-abbrev pub placeNumber : Option ℕ → ℕ
-placeNumber none = 16
-placeNumber (some i) = i
+abbrev pub entryPlace : ℤ → ℕ → List Entry → Option ℕ
+entryPlace z k t = firstFrom (matches z k) 0 t
 
 abbrev pub entry : ℤ → ℕ → Entry
 entry z k = record { id = z; kind = k }

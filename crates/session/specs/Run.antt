@@ -1,19 +1,15 @@
 -- Runs of a session: records that arrive, operations that the centre begins, lost connections, refused ones among them.
 use Prim.Native.Nat.{ℕ, suc, _-_}
 use mathlib.Core.Bool.{Bool, true, false, _&&_}
-use mathlib.Core.List.{List, [], _∷_}
-use mathlib.Core.Option.{Option, some, none}
-use lib.IntN.{ℤ, pos}
-use lib.Dec.{T, eqb}
+use mathlib.Core.{List.List, List.[], List._∷_, Option.Option, Option.some, Option.none}
+use lib.{IntN.ℤ, IntN.pos, Dec.T, Dec.eqb}
 use Rattle.octets.specs.Choice.{either}
 use Rattle.record.specs.declared.Message.{Message}
 use Rattle.record.specs.Record.{commandIn}
-use Rattle.session.specs.Session.{State, Session, Host}
-use Rattle.session.specs.Session.State.{Waiting, Connecting, Open}
-use Rattle.session.specs.Kinds.{Operation, stationStarts, operationBy}
+use Rattle.session.specs.{Session.State, Session.Session, Session.Host, Session.State.Waiting, Session.State.Connecting, Session.State.Open}
+use Rattle.session.specs.{Kinds.Operation, Kinds.stationStarts, Kinds.operationBy, Centre.centreBegins, Centre.oneBelow, Centre.lost}
 use Rattle.session.specs.Happened.{isBegun, isStarted, isCompleted, isAnswered, isIssued, isStored, isNothing}
-use Rattle.session.specs.Arrive.{Outcome, below, highestOf, lowestOf, arrives}
-use Rattle.session.specs.Centre.{centreBegins, oneBelow, lost}
+use Rattle.session.specs.Arrive.{Outcome, isBelow, highestOf, lowestOf, arrives}
 
 pub data Event : Type 0 where
   arrival : Message → List ℕ → Host → Event
@@ -91,10 +87,10 @@ Ordered beyond id b s (e ∷ es) =
 
 -- the stations' IDs that are accepted, and the centre's that are issued
 abbrev pub Rising : Session → List Event → Type 0
-Rising s es = Ordered below acceptedIn (highestOf s) s es
+Rising s es = Ordered isBelow acceptedIn (highestOf s) s es
 
 abbrev pub Falling : Session → List Event → Type 0
-Falling s es = Ordered (λ a z. below z a) issuedIn (lowestOf s) s es
+Falling s es = Ordered (λ a z. isBelow z a) issuedIn (lowestOf s) s es
 
 -- what happened in a step; 0 where it was refused
 abbrev pub happenedOf : Outcome → ℕ

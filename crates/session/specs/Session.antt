@@ -1,7 +1,6 @@
 -- Document 01, "Session": what a session holds.
 use Prim.Native.Nat.{ℕ}
-use mathlib.Core.Bool.{Bool}
-use mathlib.Core.List.{List}
+use mathlib.Core.{Bool.Bool, List.List}
 use lib.IntN.{ℤ}
 
 pub data State : Type 0 where

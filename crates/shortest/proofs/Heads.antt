@@ -1,28 +1,26 @@
 -- The shortest head of a text, an array and a map states its length, which may be up to 2^32 - 1, and has few bytes.
 -- By the cases of the length; arrays and maps once, over the lead bytes of either. Assumes nothing.
-use mathlib.Core.Path.{_≡_, refl}
-use mathlib.Core.List.{[]}
+use mathlib.Core.{Path._≡_, Path.refl, List.[]}
 use Prim.Native.Nat.{ℕ, _+_, _*_, _^_, _≤_, _<_}
 use native.Mathlib.Omega.{arith}
 use lib.ListN.{length}
-use Rattle.octets.specs.Number.{bigAt, big}
-use Rattle.octets.specs.Bytes.{bigBytes}
-use Rattle.octets.proofs.Digits.{length-big, big-is}
+use Rattle.octets.specs.{Number.bigAt, Number.big, Bytes.bigBytes}
+use Rattle.octets.proofs.{Widths.bits-bytes, Digits.length-big, Digits.big-is}
 use Rattle.element.specs.Lead.{Class, shapeOf, leadBytes, rowIn}
 use Rattle.element.specs.Tree.{Headed}
-use Rattle.forms.specs.Shortest.{Head, widthOf, textHead, manyHead, arrayHead, mapHead}
+use Rattle.forms.specs.Shortest.{WrittenHead, widthOf, textHead, manyHead, arrayHead, mapHead}
 use Rattle.shortest.proofs.Rows.{row, below, headed, text-row, text-wide-row, array-row, map-row}
-use Rattle.shortest.proofs.Wholes.{bits-bytes, by-width, width-least}
+use Rattle.shortest.proofs.Wholes.{by-width, width-least}
 
 -- a lead byte of that class, with as many bytes of length as its row says, which state n
-pub record Heads (c : Class) (n : ℕ) (h : Head) : Type 0 where
+pub record Heads (c : Class) (n : ℕ) (h : WrittenHead) : Type 0 where
   pub wide : ℕ
   pub more : ℕ
   pub row-is : rowIn leadBytes (h .lead) ≡ row c wide more
   pub size : length (h .size) ≡ wide
   pub states : n ≡ more + big (h .size)
 
-pub head-lawful : (c : Class) (n : ℕ) (h : Head) → Heads c n h → Headed (shapeOf c) (h .lead) (h .size) n
+pub head-lawful : (c : Class) (n : ℕ) (h : WrittenHead) → Heads c n h → Headed (shapeOf c) (h .lead) (h .size) n
 head-lawful c n h H = headed c (H .wide) (H .more) (h .lead) (h .size) (H .row-is) n (H .size) (H .states)
 
 -- the length in the lead byte, or in k bytes behind it
@@ -36,7 +34,7 @@ module _ (c : Class) (n : ℕ) where
       record { wide = k; more = 0; row-is = e; size = length-big k n; states = omega (arith, big-is k n (rw bits-bytes at h)) }
 
 module _ (n : ℕ) where
-  by-text-head : (P : Head → Type 0) → (n < 32 → P (record { lead = 0xA0 + n; size = [] })) → (32 ≤ n → P (record { lead = 0xD9 + widthOf n; size = bigBytes (2 ^ widthOf n) n })) → P (textHead n)
+  by-text-head : (P : WrittenHead → Type 0) → (n < 32 → P (record { lead = 0xA0 + n; size = [] })) → (32 ≤ n → P (record { lead = 0xD9 + widthOf n; size = bigBytes (2 ^ widthOf n) n })) → P (textHead n)
   unfolding textHead
   by-text-head P p q = below n 32 (λ _. record { lead = 0xA0 + n; size = [] }) (λ _. record { lead = 0xD9 + widthOf n; size = bigBytes (2 ^ widthOf n) n }) P p q
 
@@ -75,7 +73,7 @@ module _ (n : ℕ) where
 
 -- arrays and maps: the lead bytes from `few` on have the length in them, `first` has two bytes of it and the next has four
 module _ (few first n : ℕ) where
-  by-many-head : (P : Head → Type 0) → (n < 16 → P (record { lead = few + n; size = [] }))
+  by-many-head : (P : WrittenHead → Type 0) → (n < 16 → P (record { lead = few + n; size = [] }))
       → (16 ≤ n → n < 2 ^ 16 → P (record { lead = first; size = bigBytes 2 n })) → (2 ^ 16 ≤ n → P (record { lead = first + 1; size = bigBytes 4 n })) → P (manyHead few first n)
   unfolding manyHead
   by-many-head P p q r =

@@ -1,19 +1,13 @@
 -- Arrays and maps with their shortest heads are lawful where what they hold is, and mean the list and the table of it.
 -- Bytes as an array of numbers: as many elements as bytes, in at most twice as many. Assumes nothing.
-use mathlib.Core.Path.{_≡_, refl, ap}
-use mathlib.Core.List.{List, [], _∷_}
+use mathlib.Core.{Path._≡_, Path.refl, Path.ap, List.List, List.[], List._∷_}
 use Prim.Native.Nat.{ℕ, suc, _+_, _*_, _^_, _≤_, _<_}
 use native.Mathlib.Omega.{arith}
-use lib.Dec.{T, ltb, ltb→lt}
-use lib.IntN.{pos}
-use lib.ListN.{length, length-append}
-use lib.Pow.{areBytes}
+use lib.{Dec.T, Dec.ltb, Dec.ltb→lt, IntN.pos, ListN.length, ListN.length-append, Pow.areBytes}
 use Rattle.octets.proofs.Ranges.{both-left, both-right}
 use Rattle.element.specs.declared.Shape.the-variants.{Array, Map}
-use Rattle.element.specs.Lead.{Class}
-use Rattle.element.specs.Tree.{Trees, Pairs, bytesOf, bytesOfAll, bytesOfPairs, countOf, countOfAll, countOfPairs, depthOf, depthOfAll, depthOfPairs, partsOf, pairsOf, shapeOfTree, Lawful, LawfulAll, LawfulPairs}
-use Rattle.element.specs.Meaning.{meaningOf, meaningOfAll, meaningOfPairs}
-use Rattle.element.specs.Meaning.Element.{list, table}
+use Rattle.element.specs.{Lead.Class, Meaning.meaningOf, Meaning.meaningOfAll, Meaning.meaningOfPairs, Meaning.Element.list, Meaning.Element.table}
+use Rattle.element.specs.Tree.{Trees, Pairs, bytesOf, bytesOfAll, bytesOfPairs, countOf, countOfAll, countOfPairs, depthOf, depthOfAll, depthOfPairs, partCount, pairCount, shapeOfTree, Lawful, LawfulAll, LawfulPairs}
 use Rattle.forms.specs.Shortest.{wholeTree, arrayHead, arrayTree, mapHead, mapTree, numberTrees}
 use Rattle.shortest.proofs.Wholes.{whole-count, whole-depth, pos-lawful, byte-length}
 use Rattle.shortest.proofs.Heads.{head-lawful, many-size, many-size-few, many-size-two, array-heads, map-heads}
@@ -51,17 +45,17 @@ module _ (ts : Trees) where
   unfolding arrayTree depthOf
   array-depth = refl
 
-  pub array-length : length (bytesOf (arrayTree ts)) ≡ 1 + length (arrayHead (partsOf ts) .size) + length (bytesOfAll ts)
+  pub array-length : length (bytesOf (arrayTree ts)) ≡ 1 + length (arrayHead (partCount ts) .size) + length (bytesOfAll ts)
   unfolding arrayTree bytesOf
-  array-length = omega (arith, length-append (arrayHead (partsOf ts) .size) (bytesOfAll ts))
+  array-length = omega (arith, length-append (arrayHead (partCount ts) .size) (bytesOfAll ts))
 
-  pub array-shape : partsOf ts < 2 ^ 32 → shapeOfTree (arrayTree ts) ≡ Array
+  pub array-shape : partCount ts < 2 ^ 32 → shapeOfTree (arrayTree ts) ≡ Array
   unfolding arrayTree
-  array-shape h = head-lawful Class.array (partsOf ts) (arrayHead (partsOf ts)) (array-heads (partsOf ts) h) .shape-is
+  array-shape h = head-lawful Class.array (partCount ts) (arrayHead (partCount ts)) (array-heads (partCount ts) h) .shape-is
 
-  pub array-lawful : partsOf ts < 2 ^ 32 → LawfulAll ts → Lawful (arrayTree ts)
+  pub array-lawful : partCount ts < 2 ^ 32 → LawfulAll ts → Lawful (arrayTree ts)
   unfolding arrayTree Lawful
-  array-lawful h L = (head-lawful Class.array (partsOf ts) (arrayHead (partsOf ts)) (array-heads (partsOf ts) h), L)
+  array-lawful h L = (head-lawful Class.array (partCount ts) (arrayHead (partCount ts)) (array-heads (partCount ts) h), L)
 
 module _ (ps : Pairs) where
   pub map-means : meaningOf (mapTree ps) ≡ table (meaningOfPairs ps)
@@ -76,17 +70,17 @@ module _ (ps : Pairs) where
   unfolding mapTree depthOf
   map-depth = refl
 
-  pub map-length : length (bytesOf (mapTree ps)) ≡ 1 + length (mapHead (pairsOf ps) .size) + length (bytesOfPairs ps)
+  pub map-length : length (bytesOf (mapTree ps)) ≡ 1 + length (mapHead (pairCount ps) .size) + length (bytesOfPairs ps)
   unfolding mapTree bytesOf
-  map-length = omega (arith, length-append (mapHead (pairsOf ps) .size) (bytesOfPairs ps))
+  map-length = omega (arith, length-append (mapHead (pairCount ps) .size) (bytesOfPairs ps))
 
-  pub map-shape : pairsOf ps < 2 ^ 32 → shapeOfTree (mapTree ps) ≡ Map
+  pub map-shape : pairCount ps < 2 ^ 32 → shapeOfTree (mapTree ps) ≡ Map
   unfolding mapTree
-  map-shape h = head-lawful Class.map (pairsOf ps) (mapHead (pairsOf ps)) (map-heads (pairsOf ps) h) .shape-is
+  map-shape h = head-lawful Class.map (pairCount ps) (mapHead (pairCount ps)) (map-heads (pairCount ps) h) .shape-is
 
-  pub map-lawful : pairsOf ps < 2 ^ 32 → LawfulPairs ps → Lawful (mapTree ps)
+  pub map-lawful : pairCount ps < 2 ^ 32 → LawfulPairs ps → Lawful (mapTree ps)
   unfolding mapTree Lawful
-  map-lawful h L = (head-lawful Class.map (pairsOf ps) (mapHead (pairsOf ps)) (map-heads (pairsOf ps) h), L)
+  map-lawful h L = (head-lawful Class.map (pairCount ps) (mapHead (pairCount ps)) (map-heads (pairCount ps) h), L)
 
 -- bytes as numbers
 pub numbers-lawful : (d : List ℕ) → LawfulAll (numberTrees d)
@@ -94,8 +88,8 @@ unfolding numberTrees Lawful
 numbers-lawful [] = tt
 numbers-lawful (b ∷ d) = (pos-lawful b, numbers-lawful d)
 
-pub numbers-parts : (d : List ℕ) → partsOf (numberTrees d) ≡ length d
-unfolding numberTrees partsOf
+pub numbers-parts : (d : List ℕ) → partCount (numberTrees d) ≡ length d
+unfolding numberTrees partCount
 numbers-parts [] = refl
 numbers-parts (b ∷ d) = ap suc (numbers-parts d)
 

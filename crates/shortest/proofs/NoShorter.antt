@@ -8,36 +8,28 @@ use mathlib.Core.List.{List, [], _∷_, _++_}
 use Prim.Native.Nat.{ℕ, zero, suc, _+_, _-_, _*_, _^_, _≤_, _<_}
 use native.Mathlib.Omega.{arith}
 use lib.Dec.{T, leb, ltb, eqb, lit<, leb→le, ltb→lt, eqb→eq}
-use lib.IntN.{ℤ, pos, negsuc}
-use lib.ListN.{length, length-append}
-use lib.Pow.{pow-pos}
-use lib.Seq.{getD-append-add}
+use lib.{IntN.ℤ, IntN.pos, IntN.negsuc, ListN.length, ListN.length-append, Pow.pow-pos, Seq.getD-append-add}
 use borrow.Author.Tests.{leb-true, lt-ltb, le-ltb}
-use Rattle.octets.specs.Choice.{either}
-use Rattle.octets.specs.Number.{bigAt, big}
-use Rattle.octets.specs.Bytes.{IsBytes}
+use Rattle.octets.specs.{Choice.either, Number.bigAt, Number.big, Bytes.IsBytes, Signed.signedOf}
 use Rattle.octets.proofs.Ranges.{ranged, all, both-left, both-right}
-use Rattle.octets.proofs.Widths.{big-below}
-use Rattle.element.specs.declared.Shape.{Shape}
-use Rattle.element.specs.declared.Shape.the-variants.{Never, Plain, Text, Array, Map}
-use Rattle.element.specs.Lead.{Class, Row, Range, classOf, shapeOf, leadBytes, rowIn, headOf}
-use Rattle.element.specs.Tree.{Tree, Trees, Pairs, bytesOf, partsOf, pairsOf, Headed, Lawful}
-use Rattle.element.specs.Tree.Tree.{leaf, array, map}
-use Rattle.element.specs.Meaning.{Element, twos, leafOf, meaningOf}
+use Rattle.octets.proofs.Widths.{big-below, bits-bytes, half-twice}
+use Rattle.element.specs.declared.Shape.{Shape, the-variants.Never, the-variants.Plain, the-variants.Text, the-variants.Array, the-variants.Map}
+use Rattle.element.specs.Lead.{Class, LeadRow, Range, classOf, shapeOf, leadBytes, rowIn, headOf}
+use Rattle.element.specs.Tree.{Tree, Trees, Pairs, bytesOf, partCount, pairCount, Headed, Lawful}
+use Rattle.element.specs.{Tree.Tree.leaf, Tree.Tree.array, Tree.Tree.map, Meaning.Element, Meaning.leafOf, Meaning.meaningOf}
 use Rattle.element.specs.Meaning.Element.{null, truth, whole, single, double, text, octets, typed, list, table}
 use Rattle.forms.specs.Shortest.{wholeTree, textHead, textTree, manyHead, arrayHead, mapHead, headBytes}
-use Rattle.shortest.proofs.Rows.{row, below}
-use Rattle.shortest.proofs.Wholes.{bits-bytes, half-twice, pos-alone, negsuc-alone, pos-length, negsuc-length}
+use Rattle.shortest.proofs.{Rows.row, Rows.below, Values.text-length-is}
+use Rattle.shortest.proofs.Wholes.{pos-alone, negsuc-alone, pos-length, negsuc-length}
 use Rattle.shortest.proofs.Heads.{text-size-few, text-size-least, many-size, many-size-few, many-size-two}
-use Rattle.shortest.proofs.Values.{text-length-is}
 
 one-of : {C : Type 0} (p q : Bool) → T (p || q) → (T p → C) → (T q → C) → C
 one-of true q t f g = f t
 one-of false q t f g = g t
 
 -- a test of a lead byte and its row that passes at every row of a list, and at no row, passes at every number
-module _ (f : ℕ → Row → Bool) where
-  abbrev rowAt : Range → ℕ → Row
+module _ (f : ℕ → LeadRow → Bool) where
+  abbrev rowAt : Range → ℕ → LeadRow
   rowAt r b = row (r .class) (r .wide (b - r .first)) (r .more (b - r .first))
 
   abbrev passed : List Range → Bool
@@ -147,14 +139,14 @@ Least k (list es) = Unit {0}
 Least k (table fs) = Unit {0}
 
 -- two's complement of 2 ^ i bytes
-least-twos : (i n : ℕ) → n < 2 ^ (8 * 2 ^ i) → length (bytesOf (wholeTree (twos (2 ^ i) n))) ≤ 1 + 2 ^ i
-least-twos i n h =
+least-signed : (i n : ℕ) → n < 2 ^ (8 * 2 ^ i) → length (bytesOf (wholeTree (signedOf (8 * 2 ^ i) n))) ≤ 1 + 2 ^ i
+least-signed i n h =
     below n (2 ^ (8 * 2 ^ i - 1)) (λ _. pos n) (λ _. negsuc (2 ^ (8 * 2 ^ i) - suc n)) (λ z. length (bytesOf (wholeTree z)) ≤ 1 + 2 ^ i)
     (λ l. pos-length n i h)
-    (λ g. negsuc-length (2 ^ (8 * 2 ^ i) - suc n) i (omega (arith, half-twice (2 ^ i) (pow-pos i))))
+    (λ g. negsuc-length (2 ^ (8 * 2 ^ i) - suc n) i (omega (arith, half-twice (8 * 2 ^ i) (omega (arith, pow-pos i)))))
 
 -- a lead byte alone
-least-small : (b : ℕ) → T (valued Class.small b 0 0) → length (bytesOf (wholeTree (twos 1 b))) ≤ 1
+least-small : (b : ℕ) → T (valued Class.small b 0 0) → length (bytesOf (wholeTree (signedOf 8 b))) ≤ 1
 least-small b t =
     one-of (ltb b 0x80) (leb 0xE0 b && ltb b 0x100) t
     (λ p. let h = ltb→lt b 0x80 p in rw (lt-ltb b 0x80 h) (pos-alone b h))
@@ -184,7 +176,7 @@ module _ (b : ℕ) (l d : List ℕ) (few : IsBytes l) (bytes : IsBytes d) (w m :
   least-leaf Class.unsigned s t = let i = body t in omega (arith, pos-length (big d) (i .0) (i .2))
   least-leaf Class.signed s t =
       let i = body t in
-      omega (arith, subst (λ (k : ℕ). length (bytesOf (wholeTree (twos k (big d)))) ≤ 1 + k) (sym (i .1)) (least-twos (i .0) (big d) (i .2)))
+      omega (arith, subst (λ (k : ℕ). length (bytesOf (wholeTree (signedOf (8 * k) (big d)))) ≤ 1 + k) (sym (i .1)) (least-signed (i .0) (big d) (i .2)))
 
 bytes-front : (l t : List ℕ) → IsBytes (l ++ t) → IsBytes l
 bytes-front [] t bs k = lit< tt
@@ -215,10 +207,10 @@ module _ (b : ℕ) (l : List ℕ) where
       let t = f (subst (λ (s : Shape). T (sized s (headOf b .wide) (headOf b .more))) (H .shape-is) (all-sized b)) in
       omega (arith, many-least l bytes few first (headOf b .wide) (headOf b .more) n t (H .wide) (H .states))
 
-  pub no-shorter-array : (ts : Trees) → Lawful (array b l ts) → IsBytes l → length (headBytes (arrayHead (partsOf ts))) ≤ suc (length l)
+  pub no-shorter-array : (ts : Trees) → Lawful (array b l ts) → IsBytes l → length (headBytes (arrayHead (partCount ts))) ≤ suc (length l)
   unfolding Lawful
-  no-shorter-array ts L bytes = least-head Array 0x90 0xDC (partsOf ts) bytes (L .0) (λ t. t)
+  no-shorter-array ts L bytes = least-head Array 0x90 0xDC (partCount ts) bytes (L .0) (λ t. t)
 
-  pub no-shorter-map : (ps : Pairs) → Lawful (map b l ps) → IsBytes l → length (headBytes (mapHead (pairsOf ps))) ≤ suc (length l)
+  pub no-shorter-map : (ps : Pairs) → Lawful (map b l ps) → IsBytes l → length (headBytes (mapHead (pairCount ps))) ≤ suc (length l)
   unfolding Lawful
-  no-shorter-map ps L bytes = least-head Map 0x80 0xDE (pairsOf ps) bytes (L .0) (λ t. t)
+  no-shorter-map ps L bytes = least-head Map 0x80 0xDE (pairCount ps) bytes (L .0) (λ t. t)

@@ -1,21 +1,15 @@
 -- The lead bytes of the shortest forms: the row of each, once over the place in its range, and what a leaf with a given row is.
 -- The rows by computation, or by the two ends of a range. Assumes nothing.
-use mathlib.Core.Path.{_≡_, refl, ap}
-use mathlib.Core.Bool.{Bool, true, false}
-use mathlib.Core.List.{List}
+use mathlib.Core.{Path._≡_, Path.refl, Path.ap, Bool.Bool, Bool.true, Bool.false, List.List}
 use Prim.Native.Nat.{ℕ, zero, suc, _+_, _-_, _^_, _≤_, _<_}
 use native.Mathlib.Omega.{arith}
-use lib.Dec.{ltb}
-use lib.ListN.{length}
+use lib.{Dec.ltb, ListN.length}
 use borrow.Author.Tests.{le-leb, lt-leb, ltb-true, ltb-false}
-use Rattle.octets.specs.Choice.{either}
-use Rattle.octets.specs.Number.{big}
-use Rattle.element.specs.Lead.{Class, Row, shapeOf, leadBytes, rowIn, headOf}
-use Rattle.element.specs.Tree.{IsBody, Headed, Lawful}
-use Rattle.element.specs.Tree.Tree.{leaf}
-use Rattle.element.specs.Meaning.{leafOf, meaningOf}
+use Rattle.octets.specs.{Choice.either, Number.big}
+use Rattle.element.specs.Lead.{Class, LeadRow, shapeOf, leadBytes, rowIn, headOf}
+use Rattle.element.specs.{Tree.IsBody, Tree.Headed, Tree.Lawful, Tree.Tree.leaf, Meaning.leafOf, Meaning.meaningOf}
 
-abbrev pub row : Class → ℕ → ℕ → Row
+abbrev pub row : Class → ℕ → ℕ → LeadRow
 row c w m = record { class = c; wide = w; more = m }
 
 -- what holds on both sides of a test holds of the choice
@@ -37,7 +31,7 @@ module _ (c : Class) (w m b : ℕ) (l : List ℕ) (is : rowIn leadBytes b ≡ ro
 
   pub leaf-means : (d : List ℕ) → meaningOf (leaf b l d) ≡ leafOf c b d
   unfolding meaningOf
-  leaf-means d = ap (λ (r : Row). leafOf (r .class) b d) is
+  leaf-means d = ap (λ (r : LeadRow). leafOf (r .class) b d) is
 
 pub small-row : (n : ℕ) → n < 0x80 → rowIn leadBytes n ≡ row Class.small 0 0
 unfolding rowIn leadBytes

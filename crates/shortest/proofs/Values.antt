@@ -1,22 +1,17 @@
 -- A real, a truth value and a text in their shortest forms are lawful and mean that value; each is one element. Assumes nothing.
 use mathlib.Core.Path.{_≡_, refl, ap, _∙_}
-use mathlib.Core.Bool.{Bool, true, false}
-use mathlib.Core.List.{List, []}
+use mathlib.Core.{Bool.Bool, Bool.true, Bool.false, List.List, List.[]}
 use Prim.Native.Nat.{ℕ, suc, _+_, _^_, _≤_, _<_}
 use native.Mathlib.Omega.{arith}
-use lib.Dec.{T}
+use lib.{Dec.T, ListN.length, ListN.length-append}
 use lib.Ieee.{Float, binary64, toBits, fits}
 use lib.Ieee.Bits.{ofBits-toBits, toBits-lt}
-use lib.ListN.{length, length-append}
-use Rattle.octets.specs.Number.{bigAt}
-use Rattle.octets.specs.Bytes.{bigBytes}
-use Rattle.octets.proofs.Digits.{length-big, big-is}
-use Rattle.octets.proofs.Ranges.{is-true}
+use Rattle.octets.specs.{Number.bigAt, Bytes.bigBytes}
+use Rattle.octets.proofs.{Digits.length-big, Digits.big-is, Ranges.is-true}
 use Rattle.element.specs.declared.Shape.the-variants.{Text}
-use Rattle.element.specs.Lead.{Class, leadBytes, rowIn}
+use Rattle.element.specs.{Lead.Class, Lead.leadBytes, Lead.rowIn, Meaning.keyOf, Meaning.meaningOf}
+use Rattle.element.specs.{Meaning.Element.truth, Meaning.Element.double, Meaning.Element.text}
 use Rattle.element.specs.Tree.{bytesOf, countOf, depthOf, shapeOfTree, Lawful}
-use Rattle.element.specs.Meaning.{keyOf, meaningOf}
-use Rattle.element.specs.Meaning.Element.{truth, double, text}
 use Rattle.number.specs.declared.Number.the-variants.{Real}
 use Rattle.number.specs.Number.{finite, numberOf}
 use Rattle.forms.specs.Shortest.{realTree, markTree, textHead, textTree}

@@ -1,31 +1,17 @@
 -- A whole in its shortest form is lawful and means that whole, from -2^63 to 2^64 - 1, and is one element of at most nine bytes.
 -- Once over the place i of a width: 256 ^ (2 ^ i) is 2 ^ (8 * 2 ^ i), so a number that the width holds reads back. Assumes nothing.
-use mathlib.Core.Path.{_≡_, refl, sym, ap, ap₂, _∙_}
+use mathlib.Core.Path.{_≡_, refl, ap, ap₂, _∙_}
 use mathlib.Core.List.{List, []}
 use Prim.Native.Nat.{ℕ, zero, suc, _+_, _-_, _*_, _^_, _≤_, _<_}
-use native.Mathlib.Nat.{pow-suc}
 use native.Mathlib.Omega.{arith}
-use lib.IntN.{ℤ, pos, negsuc}
-use lib.ListN.{length}
-use lib.Pow.{pow-add, pow-mono, pow-pos}
+use lib.{IntN.ℤ, IntN.pos, IntN.negsuc, ListN.length, Pow.pow-mono, Pow.pow-pos}
 use borrow.Author.Tests.{lt-ltb, le-ltb}
-use Rattle.octets.specs.Number.{bigAt, big}
-use Rattle.octets.specs.Bytes.{bigBytes}
-use Rattle.octets.proofs.Digits.{length-big, big-is}
-use Rattle.element.specs.Lead.{Class}
+use Rattle.octets.specs.{Number.bigAt, Number.big, Bytes.bigBytes, Signed.signedOf}
+use Rattle.octets.proofs.{Widths.bits-bytes, Widths.half-twice, Digits.length-big, Digits.big-is}
+use Rattle.element.specs.{Lead.Class, Tree.Tree.leaf, Meaning.meaningOf, Meaning.Element.whole}
 use Rattle.element.specs.Tree.{Tree, bytesOf, countOf, depthOf, Lawful}
-use Rattle.element.specs.Tree.Tree.{leaf}
-use Rattle.element.specs.Meaning.{twos, meaningOf}
-use Rattle.element.specs.Meaning.Element.{whole}
 use Rattle.forms.specs.Shortest.{widthOf, leafWide, wholeTree}
 use Rattle.shortest.proofs.Rows.{below, leaf-lawful, leaf-means, small-row, negative-row, word-row, id-row}
-
--- n bytes hold 8 n bits
-pub bits-bytes : (n : ℕ) → 2 ^ (8 * n) ≡ 256 ^ n
-bits-bytes zero = refl
-bits-bytes (suc n) =
-    let e : 8 * suc n ≡ 8 * n + 8 = omega arith in
-    ap (λ (m : ℕ). 2 ^ m) e ∙ pow-add 2 (8 * n) 8 ∙ ap (λ (m : ℕ). m * 256) (bits-bytes n) ∙ sym (pow-suc 256 n)
 
 -- the width of a number, and what is known at each
 pub by-width : (n : ℕ) (P : ℕ → Type 0) → (n < 2 ^ 8 → P 0) → (2 ^ 8 ≤ n → n < 2 ^ 16 → P 1) → (2 ^ 16 ≤ n → n < 2 ^ 32 → P 2) → (2 ^ 32 ≤ n → P 3) → P (widthOf n)
@@ -49,15 +35,10 @@ width-least i n h = pow-mono (least i h)
     least (suc (suc zero)) h = by-width n (λ j. j ≤ 2) (λ l. omega arith) (λ g l. omega arith) (λ g l. omega arith) (λ g. absurd (omega arith))
     least (suc (suc (suc i))) h = omega (arith, width-few n)
 
-pub half-twice : (k : ℕ) → 0 < k → 2 ^ (8 * k) ≡ 2 ^ (8 * k - 1) * 2
-half-twice k p =
-    let e : 8 * k ≡ 8 * k - 1 + 1 = omega arith in
-    ap (λ (m : ℕ). 2 ^ m) e ∙ pow-add 2 (8 * k - 1) 1
-
 -- two's complement of j bytes reads back
-twos-back : (j k : ℕ) → 0 < j → 2 * k + 1 < 2 ^ (8 * j) → twos j (2 ^ (8 * j) - suc k) ≡ negsuc k
-twos-back j k p h =
-    let e = half-twice j p in
+signed-back : (j k : ℕ) → 0 < j → 2 * k + 1 < 2 ^ (8 * j) → signedOf (8 * j) (2 ^ (8 * j) - suc k) ≡ negsuc k
+signed-back j k p h =
+    let e = half-twice (8 * j) (omega arith) in
     let n = 2 ^ (8 * j) - suc k in
     simp (le-ltb n (2 ^ (8 * j - 1)) (omega arith)) (ap negsuc (omega arith))
 
@@ -82,8 +63,8 @@ module _ (i : ℕ) (h : i < 4) where
   id-means k l =
       let n = 2 ^ (8 * 2 ^ i) - suc k in
       leaf-means Class.signed 0 (2 ^ i) (0xD0 + i) [] (id-row i h) (bigBytes (2 ^ i) n)
-      ∙ ap₂ (λ (j m : ℕ). whole (twos j m)) (length-big (2 ^ i) n) (held n (omega arith))
-      ∙ ap whole (twos-back (2 ^ i) k (pow-pos i) l)
+      ∙ ap₂ (λ (j m : ℕ). whole (signedOf (8 * j) m)) (length-big (2 ^ i) n) (held n (omega arith))
+      ∙ ap whole (signed-back (2 ^ i) k (pow-pos i) l)
 
 module _ (n : ℕ) where
   -- a lead byte alone, or the width that holds it
@@ -114,7 +95,7 @@ module _ (n : ℕ) where
   pub negsuc-means : n < 2 ^ 63 → meaningOf (wholeTree (negsuc n)) ≡ whole (negsuc n)
   negsuc-means h =
       by-negsuc (λ t. meaningOf t ≡ whole (negsuc n))
-      (λ l. let e : 0x100 - suc n ≡ 0xFF - n = omega arith in leaf-means Class.small 0 0 (0xFF - n) [] (negative-row n l) [] ∙ ap whole (rw (← e) (twos-back 1 n (omega arith) (omega arith))))
+      (λ l. let e : 0x100 - suc n ≡ 0xFF - n = omega arith in leaf-means Class.small 0 0 (0xFF - n) [] (negative-row n l) [] ∙ ap whole (rw (← e) (signed-back 1 n (omega arith) (omega arith))))
       (λ g. id-means (widthOf (2 * n + 1)) (width-few (2 * n + 1)) n (width-holds (2 * n + 1) (omega arith)))
 
 pub whole-lawful : (z : ℤ) → Lawful (wholeTree z)

@@ -1,8 +1,7 @@
 -- What each branch of the code leaves is what the rule says of the session in the bytes: the place that was found is the rule's, the ID that was handed
 -- on is kept by the machine, and what was written and stored is the rule's reply and session. Assumes nothing.
 use mathlib.Core.Path.{_≡_, sym, ap, _∙_}
-use mathlib.Core.List.{List, []}
-use mathlib.Core.Option.{some, none}
+use mathlib.Core.{List.List, List.[], Option.some, Option.none}
 use Prim.Native.Nat.{ℕ, _≤_}
 use lib.IntN.{ℤ}
 use mir.Syntax.{w64}
@@ -10,24 +9,19 @@ use mir.Val.{SFits, toZ, ofZ}
 use mir.ValLaws.{toZ-ofZ}
 use Rattle.octets.specs.Choice.{either}
 use Rattle.record.specs.declared.Message.{Message}
-use Rattle.record.specs.Fits.{faultIn, fits}
-use Rattle.record.specs.Written.{frameFor}
-use Rattle.writer.specs.declared.Written.{Written}
-use Rattle.writer.specs.declared.Written.the-variants.{Whole, Refused}
+use Rattle.record.specs.{Fits.faultIn, Fits.fits, Written.frameFor}
+use Rattle.writer.specs.declared.Written.{Written, the-variants.Whole, the-variants.Refused}
 use Rattle.writer.specs.Write.{Sent, sent, framed}
-use Rattle.session.specs.Session.{Session}
-use Rattle.session.specs.Place.{isFree, matches, freePlace, placeOf, placeNumber, taken, freed}
+use Rattle.session.specs.{Session.Session, Centre.beginAt, Image.sessionImage, Image.entriesAt, Image.sessionAt}
+use Rattle.session.specs.Place.{isFree, matches, freePlace, entryPlace, taken, freed}
 use Rattle.session.specs.Happened.{isStarted, isCompleted, isAnswered, isIssued}
 use Rattle.session.specs.Arrive.{Outcome, bareOf, rspOf, withStation, withCentre, startAt, completeAt, respondAt}
-use Rattle.session.specs.Centre.{beginAt}
-use Rattle.session.specs.Image.{sessionImage, entriesAt, sessionAt}
 use Rattle.session.proofs.Image.{entries-long}
 use Rattle.steps.specs.declared.Answer.{Answer}
-use Rattle.steps.specs.Lies.{startedBy, endedBy}
+use Rattle.steps.specs.code.Lies.{startedBy, endedBy, placeNumber}
 use Rattle.steps.specs.Called.{Called, called, refusedAs, doneAs, calledBy}
 use Rattle.steps.proofs.Calls.{refused-call, silent-call, sent-call, unsent-call}
-use Rattle.steps.proofs.Choosing.{none-at, some-at}
-use Rattle.steps.proofs.Tests.{fault-none, fault-some}
+use Rattle.steps.proofs.{Choosing.none-at, Choosing.some-at, Tests.fault-none, Tests.fault-some}
 
 -- the place that the code found
 module _ (d : List ℕ) (i : ℕ) where
@@ -50,37 +44,37 @@ module _ (d : List ℕ) (i : ℕ) where
     centre-free h = some-at isFree (entriesAt d 152 296 16) i (e 296) h
 
   module _ (z : ℤ) (g : SFits w64 z) (k : ℕ) where
-    module _ (e : i ≡ placeNumber (placeOf (toZ w64 (ofZ w64 z)) k (entriesAt d 24 280 16))) where
-      station-none : i ≡ 16 → placeOf z k (sessionAt d .station) ≡ none
+    module _ (e : i ≡ placeNumber (entryPlace (toZ w64 (ofZ w64 z)) k (entriesAt d 24 280 16))) where
+      station-none : i ≡ 16 → entryPlace z k (sessionAt d .station) ≡ none
       unfolding sessionAt
       station-none h = none-at (matches z k) (entriesAt d 24 280 16) i (entries-long d 24 280 16) (rw (toZ-ofZ w64 z g) at e) h
 
-      station-some : (i ≡ 16 → ⊥) → placeOf z k (sessionAt d .station) ≡ some i
+      station-some : (i ≡ 16 → ⊥) → entryPlace z k (sessionAt d .station) ≡ some i
       unfolding sessionAt
       station-some h = some-at (matches z k) (entriesAt d 24 280 16) i (rw (toZ-ofZ w64 z g) at e) h
 
-    module _ (e : i ≡ placeNumber (placeOf (toZ w64 (ofZ w64 z)) k (entriesAt d 152 296 16))) where
-      centre-none : i ≡ 16 → placeOf z k (sessionAt d .centre) ≡ none
+    module _ (e : i ≡ placeNumber (entryPlace (toZ w64 (ofZ w64 z)) k (entriesAt d 152 296 16))) where
+      centre-none : i ≡ 16 → entryPlace z k (sessionAt d .centre) ≡ none
       unfolding sessionAt
       centre-none h = none-at (matches z k) (entriesAt d 152 296 16) i (entries-long d 152 296 16) (rw (toZ-ofZ w64 z g) at e) h
 
-      centre-some : (i ≡ 16 → ⊥) → placeOf z k (sessionAt d .centre) ≡ some i
+      centre-some : (i ≡ 16 → ⊥) → entryPlace z k (sessionAt d .centre) ≡ some i
       unfolding sessionAt
       centre-some h = some-at (matches z k) (entriesAt d 152 296 16) i (rw (toZ-ofZ w64 z g) at e) h
 
 -- a Cmp
-module _ (d room : List ℕ) (i k : ℕ) (z : ℤ) (g : SFits w64 z) (e : i ≡ placeNumber (placeOf (toZ w64 (ofZ w64 z)) k (entriesAt d 24 280 16))) (r : Answer) where
-  pub complete-none : i ≡ 16 → r ≡ refusedAs 17 → _≡_ {A = Called} (called r d room) (calledBy d room (completeAt (sessionAt d) (placeOf z k (sessionAt d .station))))
+module _ (d room : List ℕ) (i k : ℕ) (z : ℤ) (g : SFits w64 z) (e : i ≡ placeNumber (entryPlace (toZ w64 (ofZ w64 z)) k (entriesAt d 24 280 16))) (r : Answer) where
+  pub complete-none : i ≡ 16 → r ≡ refusedAs 17 → _≡_ {A = Called} (called r d room) (calledBy d room (completeAt (sessionAt d) (entryPlace z k (sessionAt d .station))))
   complete-none h q = refused-call d room _ r 17 q (ap (completeAt (sessionAt d)) (station-none d i z g k e h))
 
   pub complete-one : (i ≡ 16 → ⊥) → (f : List ℕ) → f ≡ sessionImage (withStation (sessionAt d) (sessionAt d .highest) (freed (sessionAt d .station) i)) → r ≡ doneAs 5 0
-      → _≡_ {A = Called} (called r f room) (calledBy d room (completeAt (sessionAt d) (placeOf z k (sessionAt d .station))))
+      → _≡_ {A = Called} (called r f room) (calledBy d room (completeAt (sessionAt d) (entryPlace z k (sessionAt d .station))))
   complete-one h f p q = silent-call d room _ r isCompleted _ f q p (ap (completeAt (sessionAt d)) (station-some d i z g k e h))
 
 -- a Rsp
-module _ (d room : List ℕ) (i start complete : ℕ) (z : ℤ) (g : SFits w64 z) (e : i ≡ placeNumber (placeOf (toZ w64 (ofZ w64 z)) start (entriesAt d 152 296 16))) (r : Answer) where
+module _ (d room : List ℕ) (i start complete : ℕ) (z : ℤ) (g : SFits w64 z) (e : i ≡ placeNumber (entryPlace (toZ w64 (ofZ w64 z)) start (entriesAt d 152 296 16))) (r : Answer) where
   abbrev responds : Outcome
-  responds = respondAt (sessionAt d) (endedBy start complete) z (placeOf z start (sessionAt d .centre))
+  responds = respondAt (sessionAt d) (endedBy start complete) z (entryPlace z start (sessionAt d .centre))
 
   pub respond-none : i ≡ 16 → r ≡ refusedAs 17 → _≡_ {A = Called} (called r d room) (calledBy d room responds)
   respond-none h q = refused-call d room _ r 17 q (ap (respondAt (sessionAt d) (endedBy start complete) z) (centre-none d i z g start e h))

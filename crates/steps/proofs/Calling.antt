@@ -5,29 +5,23 @@ use mathlib.Core.Bool.{Bool, true, false, not, _||_}
 use mathlib.Core.List.{List, []}
 use Prim.Native.Nat.{ℕ, zero, suc, _<_}
 use native.Mathlib.Omega.{arith}
-use lib.Dec.{eqb}
-use lib.IntN.{ℤ}
+use lib.{Dec.eqb, IntN.ℤ, Signed.mag}
 use lib.ListN.{length, getD, set, length-set}
-use lib.Signed.{mag}
 use mir.Syntax.{w64}
 use mir.Val.{toZ, ofZ}
 use borrow.Author.Tests.{eqb-true}
 use Rattle.octets.proofs.Reading.{Told, is-bytes}
 use Rattle.record.specs.declared.Message.{Message}
-use Rattle.record.specs.Record.{fourOf, commandIn}
-use Rattle.record.specs.Fits.{faultIn}
-use Rattle.session.specs.Session.{Session, Host, State}
+use Rattle.record.specs.{Record.fourOf, Record.commandIn, Fits.faultIn}
+use Rattle.session.specs.{Session.Session, Session.Host, Session.State, Centre.kindBegins, Centre.ifOpen, Centre.centreBegins}
+use Rattle.session.specs.{Image.stateOf, Image.sessionAt, Image.isSession}
 use Rattle.session.specs.Arrive.{Outcome, inWaiting, inConnecting, inOpen, inState, arrives}
-use Rattle.session.specs.Centre.{kindBegins, ifOpen, centreBegins}
-use Rattle.session.specs.Image.{stateOf, sessionAt, isSession}
 use Rattle.session.proofs.Image.{tested}
 use Rattle.steps.specs.declared.Answer.{Answer}
-use Rattle.steps.specs.Lies.{Lies, unnumbered}
+use Rattle.steps.specs.code.Lies.{Lies, unnumbered}
 use Rattle.steps.specs.Called.{Called, called, refusedAs, calledBy, hostOf, arriveOn, beginOn}
 use Rattle.steps.proofs.Tests.{unset, set-is, both-set, not-both, fault-none, fault-some}
-use Rattle.steps.proofs.Calls.{refused-call}
-use Rattle.steps.proofs.Knowing.{kept}
-use Rattle.steps.proofs.Lying.{told-long, lies, state-is}
+use Rattle.steps.proofs.{Calls.refused-call, Knowing.kept, Lying.told-long, Lying.lies, Lying.state-is}
 
 -- the state's byte
 module _ (d room : List ℕ) (m : Message) (eui : ℕ) (uuid sign : List ℕ) where

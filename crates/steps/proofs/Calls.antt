@@ -1,23 +1,17 @@
 -- What a call leaves, branch by branch: refused, silent, with its frame in the room, or with no place for it. Assumes nothing.
 use mathlib.Core.Path.{_≡_, refl, sym, ap, _∙_}
-use mathlib.Core.Bool.{Bool, true, false}
-use mathlib.Core.List.{List}
+use mathlib.Core.{Bool.Bool, Bool.true, Bool.false, List.List}
 use Prim.Native.Nat.{ℕ}
 use native.Mathlib.Omega.{arith}
-use lib.Dec.{leb}
-use lib.ListN.{length}
-use Rattle.octets.specs.Bytes.{putAt}
-use Rattle.octets.specs.Choice.{either}
+use lib.{Dec.leb, ListN.length}
+use Rattle.octets.specs.{Bytes.putAt, Choice.either}
 use Rattle.record.specs.declared.Message.{Message}
 use Rattle.record.specs.Written.{frameFor}
-use Rattle.writer.specs.declared.Written.{Written}
-use Rattle.writer.specs.declared.Written.the-variants.{Whole, Refused}
+use Rattle.writer.specs.declared.Written.{Written, the-variants.Whole, the-variants.Refused}
 use Rattle.writer.specs.Write.{Sent, sent, framed}
-use Rattle.session.specs.Session.{Session}
-use Rattle.session.specs.Arrive.{Outcome}
-use Rattle.session.specs.Image.{sessionImage}
+use Rattle.session.specs.{Session.Session, Arrive.Outcome, Image.sessionImage}
 use Rattle.steps.specs.declared.Answer.{Answer}
-use Rattle.steps.specs.Called.{Called, called, refusedAs, doneAs, refuses, sends, calledBy}
+use Rattle.steps.specs.Called.{Called, called, refusedAs, doneAs, stepRefuses, sends, calledBy}
 
 same-called : (a b : Answer) (d e room after : List ℕ) → a ≡ b → d ≡ e → room ≡ after → _≡_ {A = Called} (called a d room) (called b e after)
 same-called a b d e room after p q r i = record { answer = p i; session = q i; room = r i }
@@ -33,7 +27,7 @@ module _ (d room f after : List ℕ) (w : ℕ) (t : Session) (x : Written) (r : 
   put-whole n p q i s = go (leb (length f) (length room)) e
     where
       go : (b : Bool) → _≡_ {A = Sent} (sent x after) (either b (λ _. sent (Whole (length f)) (putAt room 0 f)) (λ _. sent (Refused 20) room))
-          → _≡_ {A = Called} (called r i after) (either b (λ _. called (doneAs w (length f)) (sessionImage t) (putAt room 0 f)) (λ _. refuses 20 d room))
+          → _≡_ {A = Called} (called r i after) (either b (λ _. called (doneAs w (length f)) (sessionImage t) (putAt room 0 f)) (λ _. stepRefuses 20 d room))
       go true u = let l : n ≡ length f = cc (p, ap (λ (y : Sent). y .answer) u) in same-called r (doneAs w (length f)) i (sessionImage t) after (putAt room 0 f) (q ∙ ap (doneAs w) l) s (ap (λ (y : Sent). y .room) u)
       go false u = let z : _≡_ {A = ℕ} 0 1 = cc (p, ap (λ (y : Sent). y .answer) u) in absurd (omega arith)
 
@@ -42,7 +36,7 @@ module _ (d room f after : List ℕ) (w : ℕ) (t : Session) (x : Written) (r : 
   put-refused k p q = go (leb (length f) (length room)) e
     where
       go : (b : Bool) → _≡_ {A = Sent} (sent x after) (either b (λ _. sent (Whole (length f)) (putAt room 0 f)) (λ _. sent (Refused 20) room))
-          → _≡_ {A = Called} (called r d after) (either b (λ _. called (doneAs w (length f)) (sessionImage t) (putAt room 0 f)) (λ _. refuses 20 d room))
+          → _≡_ {A = Called} (called r d after) (either b (λ _. called (doneAs w (length f)) (sessionImage t) (putAt room 0 f)) (λ _. stepRefuses 20 d room))
       go true u = let z : _≡_ {A = ℕ} 0 1 = cc (p, ap (λ (y : Sent). y .answer) u) in absurd (omega arith)
       go false u = let l : k ≡ 20 = cc (p, ap (λ (y : Sent). y .answer) u) in same-called r (refusedAs 20) d d after room (q ∙ ap refusedAs l) refl (ap (λ (y : Sent). y .room) u)
 

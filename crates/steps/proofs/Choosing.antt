@@ -1,14 +1,12 @@
 -- The place that the code found is the one of the definitions: 16 is none, since each side has sixteen places. Assumes nothing.
 use mathlib.Core.Path.{_≡_, refl, sym, ap, subst, _∙_}
-use mathlib.Core.Bool.{Bool, true, false}
-use mathlib.Core.List.{List, [], _∷_}
-use mathlib.Core.Option.{Option, some, none}
+use mathlib.Core.{Bool.Bool, Bool.true, Bool.false, List.List, List.[], List._∷_, Option.Option, Option.some, Option.none}
 use Prim.Native.Nat.{ℕ, suc, _+_, _<_}
 use native.Mathlib.Omega.{arith}
 use lib.ListN.{length}
 use Rattle.octets.specs.Choice.{either}
-use Rattle.session.specs.Session.{Entry}
-use Rattle.session.specs.Place.{firstFrom, placeNumber}
+use Rattle.session.specs.{Session.Entry, Place.firstFrom}
+use Rattle.steps.specs.code.Lies.{placeNumber}
 
 -- a place that was found is one of the table's
 abbrev Within : ℕ → Option ℕ → Type 0

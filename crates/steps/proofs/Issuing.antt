@@ -2,13 +2,11 @@
 -- Assumes nothing.
 use mathlib.Core.Path.{_≡_, refl, sym, ap, subst, _∙_}
 use mathlib.Core.Bool.{Bool, true, false, not, _&&_}
-use mathlib.Core.List.{List}
-use mathlib.Core.Option.{Option, some, none}
+use mathlib.Core.{List.List, Option.Option, Option.some, Option.none}
 use Prim.Native.Nat.{ℕ, _-_, _^_, _<_}
 use native.Mathlib.Omega.{arith}
-use lib.Dec.{eqb}
+use lib.{Dec.eqb, Signed.mag, Signed.ltZ}
 use lib.IntN.{ℤ, pos, negsuc, _-ℤ_}
-use lib.Signed.{mag, ltZ}
 use mir.Syntax.{w64}
 use mir.Val.{SFits, toZ, ofZ}
 use mir.ValLaws.{toZ-ofZ}
@@ -16,21 +14,15 @@ use borrow.Author.Tests.{eq-eqb, ne-eqb, eqb-true, eqb-false, ltb-false}
 use Rattle.octets.specs.Choice.{either}
 use Rattle.octets.proofs.Ranges.{true-false}
 use Rattle.names.specs.Names.{commands, placeIn, commandOf}
-use Rattle.record.specs.declared.Body.{Body}
-use Rattle.record.specs.declared.Message.{Message}
+use Rattle.record.specs.declared.{Body.Body, Message.Message}
 use Rattle.record.specs.Record.{commandIn}
-use Rattle.session.specs.Session.{Session}
-use Rattle.session.specs.Place.{sameId, freePlace}
-use Rattle.session.specs.Kinds.{Operation, centreStarts, operationBy}
-use Rattle.session.specs.Arrive.{Outcome, lowestOf}
+use Rattle.session.specs.{Session.Session, Place.sameId, Place.freePlace, Kinds.Operation, Kinds.centreStarts, Kinds.operationBy}
+use Rattle.session.specs.{Arrive.Outcome, Arrive.lowestOf, Image.sessionAt}
 use Rattle.session.specs.Centre.{oneBelow, lastId, underId, beginAt, begins, kindBegins}
-use Rattle.session.specs.Image.{sessionAt}
 use Rattle.steps.specs.declared.Answer.{Answer}
-use Rattle.steps.specs.Lies.{startedBy, unnumbered}
+use Rattle.steps.specs.code.Lies.{startedBy, unnumbered}
 use Rattle.steps.specs.Called.{Called, called, refusedAs, calledBy}
-use Rattle.steps.proofs.Tests.{unset, both}
-use Rattle.steps.proofs.Calls.{by-outcome, refused-call}
-use Rattle.steps.proofs.Knowing.{kept, result-bits}
+use Rattle.steps.proofs.{Tests.unset, Tests.both, Calls.by-outcome, Calls.refused-call, Knowing.kept, Knowing.result-bits}
 
 -- the lowest that counts is not above 0
 not-above : (b : Bool) (z : ℤ) → ltZ (pos 0) z ≡ b → ltZ (pos 0) (either b (λ _. pos 0) (λ _. z)) ≡ false

@@ -5,24 +5,20 @@ use mathlib.Core.Bool.{Bool, true, false, not, _&&_, _||_}
 use mathlib.Core.List.{List}
 use Prim.Native.Nat.{ℕ, _+_, _≤_, _<_}
 use native.Mathlib.Omega.{arith}
-use lib.Dec.{eqb, leb, ltb}
-use lib.IntN.{ℤ, pos, negsuc}
+use lib.{Dec.eqb, Dec.leb, Dec.ltb, IntN.ℤ, IntN.pos, IntN.negsuc, Signed.mag, Signed.ltZ, Signed.leZ}
 use lib.ListN.{length, take, drop, getD}
-use lib.Signed.{mag, ltZ, leZ}
 use mir.Syntax.{w64}
 use mir.Val.{toZ, ofZ}
 use mir.ValLaws.{toZ-ofZ}
 use borrow.Author.Tests.{lt-ltb, le-ltb, leb-true, leb-false}
-use Rattle.octets.specs.Number.{littleAt, ifThere}
-use Rattle.octets.specs.Signed.{signedOf}
+use Rattle.octets.specs.{Number.littleAt, Number.ifThere, Signed.signedOf}
 use Rattle.octets.proofs.Reading.{if-there}
 use Rattle.names.specs.Names.{sameBytes}
 use Rattle.message.specs.declared.MaybeId.{MaybeId}
 use Rattle.record.specs.declared.Con.{Con}
 use Rattle.record.specs.Says.{sixteenBytes}
-use Rattle.session.specs.Session.{Session}
-use Rattle.session.specs.Arrive.{below, highestOf, lowestOf, resumes}
-use Rattle.session.specs.Image.{idAt, sessionAt}
+use Rattle.session.specs.{Session.Session, Image.idAt, Image.sessionAt}
+use Rattle.session.specs.Arrive.{isBelow, highestOf, lowestOf, resumes}
 
 pub kept : (z : ℤ) → mag z < 0x8000000000000000 → toZ w64 (ofZ w64 z) ≡ z
 kept z h = toZ-ofZ w64 z (record { sfits = h })
@@ -62,18 +58,18 @@ pub result-bits : (x y : ℤ) → mag x < 0x8000000000000000 → x ≡ y → mag
 result-bits x y h e = rw e at h
 
 -- the machine's test of two numbers, of which one is known by its definition
-pub le-kept : (a x y : ℤ) → mag a < 0x8000000000000000 → mag y < 0x8000000000000000 → x ≡ y → leZ (toZ w64 (ofZ w64 a)) (toZ w64 (ofZ w64 x)) ≡ not (below y a)
+pub le-kept : (a x y : ℤ) → mag a < 0x8000000000000000 → mag y < 0x8000000000000000 → x ≡ y → leZ (toZ w64 (ofZ w64 a)) (toZ w64 (ofZ w64 x)) ≡ not (isBelow y a)
 le-kept a x y h k e = rw (kept a h, e, kept y k, le-is a y)
 
-pub ge-kept : (a x y : ℤ) → mag a < 0x8000000000000000 → mag y < 0x8000000000000000 → x ≡ y → leZ (toZ w64 (ofZ w64 x)) (toZ w64 (ofZ w64 a)) ≡ not (below a y)
+pub ge-kept : (a x y : ℤ) → mag a < 0x8000000000000000 → mag y < 0x8000000000000000 → x ≡ y → leZ (toZ w64 (ofZ w64 x)) (toZ w64 (ofZ w64 a)) ≡ not (isBelow a y)
 ge-kept a x y h k e = rw (kept a h, e, kept y k, le-is y a)
 
 -- what a con says that it knows, if it says so
 module _ (d : List ℕ) (id : MaybeId) (h : mag (id .value) < 0x8000000000000000) (x : ℤ) (g : mag x < 0x8000000000000000) where
-  pub station-knows : x ≡ highestOf (sessionAt d) → not (id .here) || leZ (toZ w64 (ofZ w64 (id .value))) (toZ w64 (ofZ w64 x)) ≡ not (id .here) || not (below (highestOf (sessionAt d)) (id .value))
+  pub station-knows : x ≡ highestOf (sessionAt d) → not (id .here) || leZ (toZ w64 (ofZ w64 (id .value))) (toZ w64 (ofZ w64 x)) ≡ not (id .here) || not (isBelow (highestOf (sessionAt d)) (id .value))
   station-knows e = ap (λ (b : Bool). not (id .here) || b) (le-kept (id .value) x (highestOf (sessionAt d)) h (result-bits x (highestOf (sessionAt d)) g e) e)
 
-  pub centre-knows : x ≡ lowestOf (sessionAt d) → not (id .here) || leZ (toZ w64 (ofZ w64 x)) (toZ w64 (ofZ w64 (id .value))) ≡ not (id .here) || not (below (id .value) (lowestOf (sessionAt d)))
+  pub centre-knows : x ≡ lowestOf (sessionAt d) → not (id .here) || leZ (toZ w64 (ofZ w64 x)) (toZ w64 (ofZ w64 (id .value))) ≡ not (id .here) || not (isBelow (id .value) (lowestOf (sessionAt d)))
   centre-knows e = ap (λ (b : Bool). not (id .here) || b) (ge-kept (id .value) x (lowestOf (sessionAt d)) h (result-bits x (lowestOf (sessionAt d)) g e) e)
 
 -- five conditions, each by its own test
@@ -85,8 +81,8 @@ five false b x y z = refl
 
 module _ (d : List ℕ) (x : Con) (e : ℕ) (u v w : Bool) where
   pub resumes-is : 8 ≤ length d → e ≡ ifThere d 0 8 (littleAt d 0 8) → u ≡ sameBytes (take 16 (drop 312 d)) (sixteenBytes (x .«sn_bs_uuid»))
-      → v ≡ not (x .«sn_bs_op_id» .here) || not (below (highestOf (sessionAt d)) (x .«sn_bs_op_id» .value))
-      → w ≡ not (x .«sn_sc_op_id» .here) || not (below (x .«sn_sc_op_id» .value) (lowestOf (sessionAt d)))
+      → v ≡ not (x .«sn_bs_op_id» .here) || not (isBelow (highestOf (sessionAt d)) (x .«sn_bs_op_id» .value))
+      → w ≡ not (x .«sn_sc_op_id» .here) || not (isBelow (x .«sn_sc_op_id» .value) (lowestOf (sessionAt d)))
       → (((not (eqb (getD d 345 0) 0) && eqb e (x .«bs_eui»)) && u) && v) && w ≡ resumes (sessionAt d) x
   unfolding sessionAt
   resumes-is h p q r s =

@@ -14,5 +14,5 @@ pub mod Opening
 pub mod Operating
 pub mod Issuing
 pub mod Calling
-pub mod Settled
+pub mod Kept
 pub mod Seen

@@ -9,18 +9,14 @@ use mir.Syntax.{w8}
 use mir.Val.{Fits}
 use Rattle.octets.proofs.Reading.{is-bytes}
 use Rattle.octets.specs.Bytes.{IsBytes}
-use Rattle.session.specs.Session.{State}
-use Rattle.session.specs.Session.State.{Waiting, Connecting, Open}
-use Rattle.session.specs.Centre.{lostIn, lost, stored}
-use Rattle.session.specs.Run.{lossOf}
+use Rattle.session.specs.{Session.State, Session.State.Waiting, Session.State.Connecting, Session.State.Open}
+use Rattle.session.specs.{Centre.lostIn, Centre.lost, Centre.stored, Run.lossOf}
 use Rattle.session.specs.Image.{stateOf, sessionImage, sessionAt, isSession}
 use Rattle.session.proofs.Image.{tested, image-back}
 use Rattle.steps.specs.declared.Answer.{Answer}
-use Rattle.steps.specs.Lies.{Lies}
+use Rattle.steps.specs.code.Lies.{Lies}
 use Rattle.steps.specs.Called.{refusedAs, doneAs, lostAnswer, lostSession}
-use Rattle.steps.proofs.Tests.{unset, set-is}
-use Rattle.steps.proofs.Storing.{now-stored}
-use Rattle.steps.proofs.Lying.{lies, state-is}
+use Rattle.steps.proofs.{Tests.unset, Tests.set-is, Storing.now-stored, Lying.lies, Lying.state-is}
 
 module _ (d : List ℕ) (b : Bool) (e : b ≡ isSession d) (r : Answer) where
   pub lost-wrong : not b ≡ true → r ≡ refusedAs 15 → (r ≡ lostAnswer d) × (d ≡ lostSession d)

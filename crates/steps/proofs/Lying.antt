@@ -6,15 +6,14 @@ use mathlib.Core.List.{List}
 use Prim.Native.Nat.{ℕ, zero, suc, _+_, _*_, _≤_, _<_}
 use native.Mathlib.Numerals.{add-one}
 use native.Mathlib.Omega.{arith}
-use lib.Dec.{eqb, ltb}
+use lib.{Dec.eqb, Dec.ltb, Seq.drop-cons}
 use lib.ListN.{length, getD, drop, drop-of-length-le}
-use lib.Seq.{drop-cons}
 use borrow.Author.Tests.{eq-eqb, ne-eqb}
 use Rattle.octets.specs.Bytes.{IsBytes}
 use Rattle.session.specs.Place.{entry, noEntry}
 use Rattle.session.specs.Image.{stateOf, idAt, entriesAt, sessionAt, areZeros, isSession}
 use Rattle.session.proofs.Image.{tested}
-use Rattle.steps.specs.Lies.{Lies}
+use Rattle.steps.specs.code.Lies.{Lies}
 use Rattle.steps.proofs.Tests.{set-is, and-assoc, and-true}
 
 -- ok says that the bytes passed so far are zeros; those from i on are left

@@ -2,44 +2,28 @@
 -- of the code. Assumes nothing.
 use mathlib.Core.Path.{_≡_, sym, ap, _∙_}
 use mathlib.Core.Bool.{Bool, true, false, not, _&&_, _||_}
-use mathlib.Core.List.{List, []}
-use mathlib.Core.Option.{none}
+use mathlib.Core.{List.List, List.[], Option.none}
 use Prim.Native.Nat.{ℕ, _<_}
 use native.Mathlib.Omega.{arith}
-use lib.Dec.{eqb}
-use lib.IntN.{ℤ, pos}
+use lib.{Dec.eqb, IntN.ℤ, IntN.pos, Seq.take-all, Signed.mag}
 use lib.ListN.{length, set, take, drop}
-use lib.Seq.{take-all}
-use lib.Signed.{mag}
 use mir.Syntax.{w64}
 use mir.Val.{SFits, toZ, ofZ}
 use mir.ValLaws.{toZ-ofZ}
 use borrow.Author.Tests.{eq-eqb, ne-eqb}
 use Rattle.octets.proofs.Reading.{Told, is-bytes}
 use Rattle.names.specs.Names.{commands, placeIn, commandOf}
-use Rattle.record.specs.declared.Sixteen.{Sixteen}
-use Rattle.record.specs.declared.Con.{Con}
-use Rattle.record.specs.declared.Body.{Body}
-use Rattle.record.specs.declared.Message.{Message}
-use Rattle.record.specs.Record.{sixteenOf}
-use Rattle.record.specs.Says.{sixteenBytes}
-use Rattle.record.specs.Written.{frameFor}
-use Rattle.writer.specs.declared.Written.{Written}
-use Rattle.writer.specs.declared.Written.the-variants.{Whole, Refused}
+use Rattle.record.specs.declared.{Sixteen.Sixteen, Con.Con, Body.Body, Message.Message}
+use Rattle.record.specs.{Record.sixteenOf, Says.sixteenBytes, Written.frameFor}
+use Rattle.writer.specs.declared.Written.{Written, the-variants.Whole, the-variants.Refused}
 use Rattle.writer.specs.Write.{Sent, sent, framed}
-use Rattle.session.specs.Session.{Host}
-use Rattle.session.specs.Place.{sameId}
-use Rattle.session.specs.Happened.{isBegun, isResumed, isOpened}
-use Rattle.session.specs.Arrive.{Outcome, conRspOf, resumes, resumed, begun, begunWith, conIn, orElse, takesCon, inWaiting, opened, inConnecting}
-use Rattle.session.specs.Image.{sessionImage, sessionAt}
+use Rattle.session.specs.{Session.Host, Place.sameId, Happened.isBegun, Happened.isResumed, Happened.isOpened, Image.sessionImage, Image.sessionAt}
+use Rattle.session.specs.Arrive.{Outcome, conRspWith, resumes, resumed, begun, begunWith, conIn, orOutcome, takesCon, inWaiting, opened, inConnecting}
 use Rattle.steps.specs.declared.Answer.{Answer}
-use Rattle.steps.specs.Lies.{Lies}
+use Rattle.steps.specs.code.Lies.{Lies}
 use Rattle.steps.specs.Called.{Called, called, refusedAs, doneAs, calledBy, hostOf}
-use Rattle.steps.proofs.Tests.{both-set, not-both}
+use Rattle.steps.proofs.{Tests.both-set, Tests.not-both, Storing.now-connecting, Storing.now-open, Searching.zero-bits, Sixteens.sixteen-again}
 use Rattle.steps.proofs.Calls.{by-outcome, refused-call, silent-call, sent-call, unsent-call}
-use Rattle.steps.proofs.Storing.{now-connecting, now-open}
-use Rattle.steps.proofs.Searching.{zero-bits}
-use Rattle.steps.proofs.Sixteens.{sixteen-again}
 
 -- conCmp
 module _ (d room : List ℕ) (k : ℕ) (z : ℤ) (g : SFits w64 z) (r : Answer) where
@@ -55,14 +39,14 @@ module _ (d room : List ℕ) (k : ℕ) (z : ℤ) (g : SFits w64 z) (r : Answer) 
   con-not-opened h p = refused-call d room (inConnecting (sessionAt d) k z) r 17 p (simp (same ∙ h))
 
 -- con that resumes: the reply has the session's own UUID
-module _ (d room : List ℕ) (eui : ℕ) (own : Sixteen) (t : own ≡ sixteenOf (take 16 (drop 328 d))) (m : Message) (b : m ≡ conRspOf eui true own)
+module _ (d room : List ℕ) (eui : ℕ) (own : Sixteen) (t : own ≡ sixteenOf (take 16 (drop 328 d))) (m : Message) (b : m ≡ conRspWith eui true own)
     (x : Written) (after : List ℕ) (w : _≡_ {A = Sent} (sent x after) (framed (frameFor m []) room)) (r : Answer) where
   abbrev again : Outcome
-  again = Outcome.replies isResumed (resumed (sessionAt d)) (conRspOf eui true (sixteenOf (sessionAt d .snScUuid))) []
+  again = Outcome.replies isResumed (resumed (sessionAt d)) (conRspWith eui true (sixteenOf (sessionAt d .snScUuid))) []
 
   again-is : again ≡ Outcome.replies isResumed (resumed (sessionAt d)) m []
   unfolding sessionAt
-  again-is = ap (λ (y : Message). Outcome.replies isResumed (resumed (sessionAt d)) y []) (sym (b ∙ ap (conRspOf eui true) t))
+  again-is = ap (λ (y : Message). Outcome.replies isResumed (resumed (sessionAt d)) y []) (sym (b ∙ ap (conRspWith eui true) t))
 
   pub resume-unsent : (k : ℕ) → x ≡ Refused k → r ≡ refusedAs k → _≡_ {A = Called} (called r d after) (calledBy d room again)
   resume-unsent k p q = unsent-call d room _ r isResumed (resumed (sessionAt d)) m [] again-is after x w k p q
@@ -71,16 +55,16 @@ module _ (d room : List ℕ) (eui : ℕ) (own : Sixteen) (t : own ≡ sixteenOf 
   resume-sent l n p q = sent-call d room _ r isResumed (resumed (sessionAt d)) m [] again-is after x w n _ p q (now-connecting d l)
 
 -- con that begins anew: the reply has the host's UUID, and so has the session
-module _ (d room uuid : List ℕ) (n : length uuid ≡ 16) (eui : ℕ) (own : Sixteen) (t : own ≡ sixteenOf (take 16 (drop 0 uuid))) (con : Con) (m : Message) (b : m ≡ conRspOf eui false own)
+module _ (d room uuid : List ℕ) (n : length uuid ≡ 16) (eui : ℕ) (own : Sixteen) (t : own ≡ sixteenOf (take 16 (drop 0 uuid))) (con : Con) (m : Message) (b : m ≡ conRspWith eui false own)
     (x : Written) (after : List ℕ) (w : _≡_ {A = Sent} (sent x after) (framed (frameFor m []) room)) (r : Answer) where
   own-is : own ≡ sixteenOf uuid
   own-is = t ∙ ap sixteenOf (take-all 16 uuid (omega arith))
 
   abbrev anew : Outcome
-  anew = Outcome.replies isBegun (begun (hostOf eui uuid []) con) (conRspOf eui false (sixteenOf uuid)) []
+  anew = Outcome.replies isBegun (begun (hostOf eui uuid []) con) (conRspWith eui false (sixteenOf uuid)) []
 
   anew-is : anew ≡ Outcome.replies isBegun (begun (hostOf eui uuid []) con) m []
-  anew-is = ap (λ (y : Message). Outcome.replies isBegun (begun (hostOf eui uuid []) con) y []) (sym (b ∙ ap (conRspOf eui false) own-is))
+  anew-is = ap (λ (y : Message). Outcome.replies isBegun (begun (hostOf eui uuid []) con) y []) (sym (b ∙ ap (conRspWith eui false) own-is))
 
   pub anew-unsent : (k : ℕ) → x ≡ Refused k → r ≡ refusedAs k → _≡_ {A = Called} (called r d after) (calledBy d room anew)
   anew-unsent k p q = unsent-call d room _ r isBegun (begun (hostOf eui uuid []) con) m [] anew-is after x w k p q
@@ -109,10 +93,10 @@ module _ (d room : List ℕ) (z : ℤ) (g : SFits w64 z) (x : Con) (h : Host) wh
 
     module _ (k : not (eqb (x .version .major) 1) || not (eqb (x .version .minor) 0) ≡ false) (y : Bool) (f : y ≡ resumes (sessionAt d) x) (c : Called) where
       abbrev resuming : Outcome
-      resuming = Outcome.replies isResumed (resumed (sessionAt d)) (conRspOf (h .scEui) true (sixteenOf (sessionAt d .snScUuid))) []
+      resuming = Outcome.replies isResumed (resumed (sessionAt d)) (conRspWith (h .scEui) true (sixteenOf (sessionAt d .snScUuid))) []
 
       abbrev beginning : Outcome
-      beginning = Outcome.replies isBegun (begun h x) (conRspOf (h .scEui) false (sixteenOf (h .uuid))) []
+      beginning = Outcome.replies isBegun (begun h x) (conRspWith (h .scEui) false (sixteenOf (h .uuid))) []
 
       pub con-resumes : y ≡ true → c ≡ calledBy d room resuming → c ≡ calledBy d room takes
       con-resumes t p =
@@ -134,7 +118,7 @@ module _ (d room : List ℕ) (m : Message) (h : Host) where
 
   pub waiting-other : (r : Answer) → conIn (m .body) ≡ none → r ≡ refusedAs 17 → _≡_ {A = Called} (called r d room) (calledBy d room (inWaiting (sessionAt d) m h))
   unfolding inWaiting
-  waiting-other r e p = refused-call d room _ r 17 p (ap (λ o. orElse o (λ x. takesCon (sessionAt d) (m .«op_id») x h) (λ _. Outcome.refused 17)) e)
+  waiting-other r e p = refused-call d room _ r 17 p (ap (λ o. orOutcome o (λ x. takesCon (sessionAt d) (m .«op_id») x h) (λ _. Outcome.refused 17)) e)
 
 module _ (b : Body) where
   pub con-rsp-none : (x : _) → b ≡ Body.ConRsp x → conIn b ≡ none

@@ -1,45 +1,38 @@
 -- An open session: what each branch of the code leaves is what the rule says, a command found by its number. Each law in the shape of a need of the
 -- code. Assumes nothing.
 use mathlib.Core.Path.{_≡_, refl, sym, ap, _∙_}
-use mathlib.Core.Bool.{true, false, not}
-use mathlib.Core.List.{List}
-use mathlib.Core.Option.{Option, some, none}
+use mathlib.Core.{Bool.true, Bool.false, Bool.not, List.List, Option.Option, Option.some, Option.none}
 use Prim.Native.Nat.{ℕ, _<_}
-use lib.IntN.{ℤ}
-use lib.Signed.{mag, leZ}
+use lib.{IntN.ℤ, Signed.mag, Signed.leZ}
 use mir.Syntax.{w64}
 use mir.Val.{SFits, toZ, ofZ}
 use mir.ValLaws.{toZ-ofZ}
 use borrow.Author.Tests.{ne-eqb}
 use Rattle.octets.specs.Choice.{either}
 use Rattle.names.specs.Names.{commands, placeIn, commandOf}
-use Rattle.session.specs.Session.{Session}
-use Rattle.session.specs.Place.{freePlace, placeOf}
+use Rattle.session.specs.{Session.Session, Place.freePlace, Place.entryPlace, Image.sessionAt}
 use Rattle.session.specs.Kinds.{Operation, stationStarts, centreStarts, operationBy}
-use Rattle.session.specs.Arrive.{Outcome, below, highestOf, starts, startAt, completeAt, respondAt, inOpen}
-use Rattle.session.specs.Image.{sessionAt}
+use Rattle.session.specs.Arrive.{Outcome, isBelow, highestOf, starts, startAt, completeAt, respondAt, inOpen}
 use Rattle.steps.specs.declared.Answer.{Answer}
-use Rattle.steps.specs.Lies.{startedBy, endedBy}
+use Rattle.steps.specs.code.Lies.{startedBy, endedBy}
 use Rattle.steps.specs.Called.{Called, called, refusedAs, calledBy}
-use Rattle.steps.proofs.Tests.{unset, set-is}
-use Rattle.steps.proofs.Calls.{by-outcome, refused-call}
-use Rattle.steps.proofs.Knowing.{le-kept, result-bits}
+use Rattle.steps.proofs.{Tests.unset, Tests.set-is, Calls.by-outcome, Calls.refused-call, Knowing.le-kept, Knowing.result-bits}
 
 -- a station's start: late or timely, by the highest ID known, x
 module _ (d room : List ℕ) (sign start answer : ℕ) (z : ℤ) (f : SFits w64 z) (x : ℤ) (g : mag x < 0x8000000000000000) (e : x ≡ highestOf (sessionAt d)) where
   abbrev start-of : ℤ → Outcome
   start-of y = starts (sessionAt d) sign (startedBy start answer) y
 
-  late-is : leZ (toZ w64 (ofZ w64 z)) (toZ w64 (ofZ w64 x)) ≡ not (below (highestOf (sessionAt d)) z)
+  late-is : leZ (toZ w64 (ofZ w64 z)) (toZ w64 (ofZ w64 x)) ≡ not (isBelow (highestOf (sessionAt d)) z)
   late-is = le-kept z x (highestOf (sessionAt d)) (f .sfits) (result-bits x (highestOf (sessionAt d)) g e) e
 
   pub start-late : (r : Answer) → leZ (toZ w64 (ofZ w64 z)) (toZ w64 (ofZ w64 x)) ≡ true → r ≡ refusedAs 18 → _≡_ {A = Called} (called r d room) (calledBy d room (start-of z))
-  start-late r t p = refused-call d room (start-of z) r 18 p (simp (unset (below (highestOf (sessionAt d)) z) (sym late-is ∙ t)))
+  start-late r t p = refused-call d room (start-of z) r 18 p (simp (unset (isBelow (highestOf (sessionAt d)) z) (sym late-is ∙ t)))
 
   pub start-timely : (c : Called) → leZ (toZ w64 (ofZ w64 z)) (toZ w64 (ofZ w64 x)) ≡ false
       → c ≡ calledBy d room (startAt (sessionAt d) sign (startedBy start answer) (toZ w64 (ofZ w64 z)) (freePlace (sessionAt d .station))) → c ≡ calledBy d room (start-of z)
   start-timely c t p =
-      by-outcome d room c (at-place z) (start-of z) (p ∙ ap (λ (y : ℤ). calledBy d room (at-place y)) (toZ-ofZ w64 z f)) (simp (set-is (below (highestOf (sessionAt d)) z) (sym late-is ∙ t)))
+      by-outcome d room c (at-place z) (start-of z) (p ∙ ap (λ (y : ℤ). calledBy d room (at-place y)) (toZ-ofZ w64 z f)) (simp (set-is (isBelow (highestOf (sessionAt d)) z) (sym late-is ∙ t)))
     where
       at-place : ℤ → Outcome
       at-place y = startAt (sessionAt d) sign (startedBy start answer) y (freePlace (sessionAt d .station))
@@ -49,21 +42,21 @@ pub record Starts (n a : ℕ) : Type 0 where
   pub is : (s : Session) (sign : ℕ) (z : ℤ) → inOpen s sign n z ≡ starts s sign (startedBy n a) z
 
 pub record Completes (n k : ℕ) : Type 0 where
-  pub is : (s : Session) (sign : ℕ) (z : ℤ) → inOpen s sign n z ≡ completeAt s (placeOf z k (s .station))
+  pub is : (s : Session) (sign : ℕ) (z : ℤ) → inOpen s sign n z ≡ completeAt s (entryPlace z k (s .station))
 
 pub record Answers (n k a : ℕ) : Type 0 where
-  pub is : (s : Session) (sign : ℕ) (z : ℤ) → inOpen s sign n z ≡ respondAt s (endedBy k a) z (placeOf z k (s .centre))
+  pub is : (s : Session) (sign : ℕ) (z : ℤ) → inOpen s sign n z ≡ respondAt s (endedBy k a) z (entryPlace z k (s .centre))
 
 -- the part of an operation that is not looked at
 start-any : (s : Session) (sign : ℕ) (o : Operation) (z : ℤ) → starts s sign o z ≡ starts s sign (startedBy (o .start) (o .rsp)) z
-start-any s sign o z = ap (λ (x : Outcome). either (below (highestOf s) z) (λ _. x) (λ _. Outcome.refused 18)) (go (freePlace (s .station)))
+start-any s sign o z = ap (λ (x : Outcome). either (isBelow (highestOf s) z) (λ _. x) (λ _. Outcome.refused 18)) (go (freePlace (s .station)))
   where
     go : (p : Option ℕ) → startAt s sign o z p ≡ startAt s sign (startedBy (o .start) (o .rsp)) z p
     go none = refl
     go (some i) = refl
 
-answer-any : (s : Session) (o : Operation) (z : ℤ) → respondAt s o z (placeOf z (o .start) (s .centre)) ≡ respondAt s (endedBy (o .start) (o .cmp)) z (placeOf z (o .start) (s .centre))
-answer-any s o z = go (placeOf z (o .start) (s .centre))
+answer-any : (s : Session) (o : Operation) (z : ℤ) → respondAt s o z (entryPlace z (o .start) (s .centre)) ≡ respondAt s (endedBy (o .start) (o .cmp)) z (entryPlace z (o .start) (s .centre))
+answer-any s o z = go (entryPlace z (o .start) (s .centre))
   where
     go : (p : Option ℕ) → respondAt s o z p ≡ respondAt s (endedBy (o .start) (o .cmp)) z p
     go none = refl
@@ -105,13 +98,13 @@ module _ (d room : List ℕ) (sign command n : ℕ) (z : ℤ) (f : SFits w64 z) 
   open-start a c p k = p ∙ by-command (starts (sessionAt d) sign (startedBy n a)) (k .is (sessionAt d) sign)
 
   pub open-complete : (k : ℕ) (r : Answer) (i : List ℕ) → Completes n k
-      → ((any : List ℕ) → _≡_ {A = Called} (called r i any) (calledBy d any (completeAt (sessionAt d) (placeOf (toZ w64 (ofZ w64 z)) k (sessionAt d .station)))))
+      → ((any : List ℕ) → _≡_ {A = Called} (called r i any) (calledBy d any (completeAt (sessionAt d) (entryPlace (toZ w64 (ofZ w64 z)) k (sessionAt d .station)))))
       → _≡_ {A = Called} (called r i room) (calledBy d room (inOpen (sessionAt d) sign command z))
-  open-complete k r i h p = p room ∙ by-command (λ y. completeAt (sessionAt d) (placeOf y k (sessionAt d .station))) (h .is (sessionAt d) sign)
+  open-complete k r i h p = p room ∙ by-command (λ y. completeAt (sessionAt d) (entryPlace y k (sessionAt d .station))) (h .is (sessionAt d) sign)
 
-  pub open-answer : (k a : ℕ) (c : Called) → c ≡ calledBy d room (respondAt (sessionAt d) (endedBy k a) (toZ w64 (ofZ w64 z)) (placeOf (toZ w64 (ofZ w64 z)) k (sessionAt d .centre))) → Answers n k a
+  pub open-answer : (k a : ℕ) (c : Called) → c ≡ calledBy d room (respondAt (sessionAt d) (endedBy k a) (toZ w64 (ofZ w64 z)) (entryPlace (toZ w64 (ofZ w64 z)) k (sessionAt d .centre))) → Answers n k a
       → c ≡ calledBy d room (inOpen (sessionAt d) sign command z)
-  open-answer k a c p h = p ∙ by-command (λ y. respondAt (sessionAt d) (endedBy k a) y (placeOf y k (sessionAt d .centre))) (h .is (sessionAt d) sign)
+  open-answer k a c p h = p ∙ by-command (λ y. respondAt (sessionAt d) (endedBy k a) y (entryPlace y k (sessionAt d .centre))) (h .is (sessionAt d) sign)
 
 pub open-none : (d room : List ℕ) (sign c : ℕ) (z : ℤ) (r : Answer)
     → (c ≡ 9 → ⊥) → (c ≡ 3 → ⊥) → (c ≡ 7 → ⊥) → (c ≡ 11 → ⊥) → (c ≡ 14 → ⊥) → (c ≡ 20 → ⊥) → (c ≡ 10 → ⊥) → (c ≡ 2 → ⊥) → (c ≡ 15 → ⊥) → (c ≡ 17 → ⊥)

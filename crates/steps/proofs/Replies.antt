@@ -1,7 +1,6 @@
 -- The replies as the code chooses them, and that they may be written. Each law in the shape of a need of the code. Assumes nothing.
 use mathlib.Core.Path.{_≡_, sym, ap, _∙_}
-use mathlib.Core.Bool.{Bool, true}
-use mathlib.Core.List.{List}
+use mathlib.Core.{Bool.Bool, Bool.true, List.List}
 use Prim.Native.Nat.{ℕ}
 use lib.IntN.{ℤ}
 use mir.Syntax.{w64}
@@ -9,12 +8,10 @@ use mir.Val.{Fits, SFits, toZ, ofZ}
 use mir.ValLaws.{toZ-ofZ}
 use borrow.Author.Tests.{eq-eqb, ne-eqb}
 use Rattle.names.specs.Names.{commands, placeIn, commandOf}
-use Rattle.record.specs.declared.Sixteen.{Sixteen}
-use Rattle.record.specs.declared.Message.{Message}
-use Rattle.record.specs.Says.{isBare}
-use Rattle.record.specs.Fits.{fits}
-use Rattle.session.specs.Arrive.{bareOf, conRspOf, detRspOf, rspOf}
-use Rattle.steps.specs.Lies.{isReply}
+use Rattle.record.specs.declared.{Sixteen.Sixteen, Message.Message}
+use Rattle.record.specs.{Says.isBare, Fits.fits}
+use Rattle.session.specs.Arrive.{bareOf, conRspWith, detRspOf, rspOf}
+use Rattle.steps.specs.code.Lies.{isReply}
 use Rattle.steps.proofs.Replying.{bare-fits, rsp-fits, con-rsp-fits}
 
 module _ (z : ℤ) (g : SFits w64 z) (m : Message) where
@@ -33,7 +30,7 @@ module _ (z : ℤ) (g : SFits w64 z) (m : Message) where
   pub bare-fit : (c : ℕ) (d : List ℕ) → m ≡ bareOf c (toZ w64 (ofZ w64 z)) → isBare c ≡ true → true ≡ fits m d
   bare-fit c d e r = sym (ap (λ (x : Message). fits x d) (e ∙ ap (bareOf c) (toZ-ofZ w64 z g)) ∙ bare-fits d z g c r)
 
-pub con-rsp-fit : (m : Message) (eui : ℕ) (r : Bool) (u : Sixteen) (d : List ℕ) → m ≡ conRspOf eui r u → Fits w64 eui → true ≡ fits m d
+pub con-rsp-fit : (m : Message) (eui : ℕ) (r : Bool) (u : Sixteen) (d : List ℕ) → m ≡ conRspWith eui r u → Fits w64 eui → true ≡ fits m d
 con-rsp-fit m eui r u d e h = sym (ap (λ (x : Message). fits x d) e ∙ con-rsp-fits d eui r u (h .fits))
 
 pub ruleset replies = (rsp-det, rsp-bare, rsp-fit, bare-fit, con-rsp-fit)

@@ -1,41 +1,33 @@
 -- The messages that a session sends are in their ranges: the replies are, whatever arrived, since their IDs and numbers have their types' widths, and
 -- what the centre starts is judged before. So the writing of a step's message can be refused with 20 alone. Assumes nothing.
-use mathlib.Core.Path.{_≡_, refl}
+use mathlib.Core.{Path._≡_, Path.refl, Option.Option, Option.some, Option.none}
 use mathlib.Core.Bool.{Bool, true, false, _&&_, _||_}
 use mathlib.Core.List.{List, [], _∷_, _++_}
-use mathlib.Core.Option.{Option, some, none}
 use Prim.Native.Nat.{ℕ, zero, suc, _/_, _%_, _^_, _≤_, _<_}
 use native.Mathlib.Nat.{mod-lt}
 use native.Mathlib.Omega.{arith}
 use lib.Dec.{eqb, leb, ltb, lit<}
-use lib.IntN.{ℤ, pos, negsuc}
-use lib.Pow.{areBytes}
+use lib.{IntN.ℤ, IntN.pos, IntN.negsuc, Pow.areBytes}
 use mir.Syntax.{w64}
 use mir.Val.{SFits}
 use borrow.Author.Tests.{le-leb, lt-ltb, leb-true}
-use Rattle.octets.specs.Bytes.{bigBytes}
-use Rattle.octets.specs.Choice.{either}
+use Rattle.octets.specs.{Bytes.bigBytes, Choice.either}
 use Rattle.octets.proofs.Digits.{length-big}
 use Rattle.names.specs.Names.{commands, placeIn, bytes, commandOf}
-use Rattle.field.specs.Kind.{kinds, kindIn}
 use Rattle.field.specs.Judge.{inRange}
 use Rattle.message.specs.Fields.{headed, lists, listIn, fieldsOf}
-use Rattle.saying.specs.Says.{partIn}
-use Rattle.saying.specs.Fits.{within}
-use Rattle.record.specs.declared.Sixteen.{Sixteen}
-use Rattle.record.specs.declared.Message.{Message}
-use Rattle.record.specs.Record.{fourOf, sixteenOf, commandIn}
-use Rattle.record.specs.Says.{sixteenBytes, isBare, bodyRows, rowsOf}
-use Rattle.record.specs.Fits.{firstFault, faultIn, fits}
-use Rattle.session.specs.Session.{State, Session, Host}
-use Rattle.session.specs.Session.State.{Waiting, Connecting, Open}
-use Rattle.session.specs.Place.{sameId, freePlace, placeOf}
+use Rattle.saying.specs.{Says.partIn, Fits.within}
+use Rattle.record.specs.declared.{Sixteen.Sixteen, Message.Message}
+use Rattle.record.specs.{Record.fourOf, Record.sixteenOf, Record.commandIn, Fits.firstFault, Fits.faultIn, Fits.fits}
+use Rattle.record.specs.Says.{sixteenBytes, isBare, bodySayings, sayingsOf}
+use Rattle.session.specs.{Session.State, Session.Session, Session.Host, Session.State.Waiting, Session.State.Connecting, Session.State.Open}
+use Rattle.session.specs.{Place.sameId, Place.freePlace, Place.entryPlace}
 use Rattle.session.specs.Kinds.{Operation, stationStarts, centreStarts, operationBy}
-use Rattle.session.specs.Arrive.{Outcome, below, highestOf, lowestOf, bareOf, detRspOf, conRspOf, rspOf, resumes, inWaiting, inConnecting, starts, startAt, completeAt, respondAt, orElse, inOpen, inState, arrives}
+use Rattle.session.specs.Arrive.{Outcome, isBelow, highestOf, lowestOf, bareOf, detRspOf, conRspWith, rspOf, resumes, inWaiting, inConnecting, starts, startAt, completeAt, respondAt, orOutcome, inOpen, inState, arrives}
 use Rattle.session.specs.Centre.{oneBelow, lastId, underId, beginAt, begins, kindBegins, ifOpen, centreBegins}
 use Rattle.session.proofs.Cases.{by-test, by-result, by-choice, by-con}
 use Rattle.session.proofs.Judged.{sixteen-long}
-use Rattle.steps.specs.Lies.{isReply}
+use Rattle.steps.specs.code.Lies.{isReply}
 use Rattle.steps.proofs.Tests.{both}
 
 signed-in : (z : ℤ) → SFits w64 z → inRange 0x8000000000000000 0x7FFFFFFFFFFFFFFF z ≡ true
@@ -73,11 +65,11 @@ bare-fields (suc (suc (suc (suc (suc (suc (suc (suc c)))))))) h = refl
 module _ (d : List ℕ) where
   module _ (z : ℤ) (h : SFits w64 z) where
     pub bare-fits : (c : ℕ) → isBare c ≡ true → fits (bareOf c z) d ≡ true
-    unfolding faultIn firstFault rowsOf bodyRows within partIn kinds kindIn
+    unfolding faultIn firstFault sayingsOf bodySayings within partIn
     bare-fits c e = rw (bare-fields c (leb-true 8 c (both (leb 8 c) (ltb c 21) e .0))) (simp (e, signed-in z h))
 
     pub det-rsp-fits : (sign : ℕ) → fits (detRspOf z sign) d ≡ true
-    unfolding faultIn firstFault rowsOf bodyRows within lists listIn partIn kinds kindIn
+    unfolding faultIn firstFault sayingsOf bodySayings within lists listIn partIn
     det-rsp-fits sign = simp (signed-in z h, length-big 4 sign, big-are 4 sign)
 
     pub rsp-fits : (sign c : ℕ) → isReply c ≡ true → fits (rspOf sign c z) d ≡ true
@@ -88,8 +80,8 @@ module _ (d : List ℕ) where
         go true e = det-rsp-fits sign
         go false e = bare-fits c e
 
-  pub con-rsp-fits : (eui : ℕ) (r : Bool) (u : Sixteen) → eui < 2 ^ 64 → fits (conRspOf eui r u) d ≡ true
-  unfolding faultIn firstFault rowsOf bodyRows within lists listIn partIn kinds kindIn
+  pub con-rsp-fits : (eui : ℕ) (r : Bool) (u : Sixteen) → eui < 2 ^ 64 → fits (conRspWith eui r u) d ≡ true
+  unfolding faultIn firstFault sayingsOf bodySayings within lists listIn partIn
   con-rsp-fits eui r u h = simp (le-leb eui 0xFFFFFFFFFFFFFFFF (omega arith), sixteen-long u, sixteen-are u)
 
 -- an outcome whose message, if it has one, may be written
@@ -104,11 +96,11 @@ Each P [] = Unit {0}
 Each P (o ∷ os) = P o × Each P os
 
 module _ (g : Operation → Outcome) (f : Operation → ℕ) (x : Outcome) (c : ℕ) (q : Fitting x) where
-  chosen : (b : Bool) (o : Operation) (p : Option Operation) → Fitting (g o) → Fitting (orElse p g (λ _. x)) → Fitting (orElse (either b (λ _. some o) (λ _. p)) g (λ _. x))
+  chosen : (b : Bool) (o : Operation) (p : Option Operation) → Fitting (g o) → Fitting (orOutcome p g (λ _. x)) → Fitting (orOutcome (either b (λ _. some o) (λ _. p)) g (λ _. x))
   chosen true o p e r = e
   chosen false o p e r = r
 
-  by-operation : (l : List Operation) → Each (λ o. Fitting (g o)) l → Fitting (orElse (operationBy f l c) g (λ _. x))
+  by-operation : (l : List Operation) → Each (λ o. Fitting (g o)) l → Fitting (orOutcome (operationBy f l c) g (λ _. x))
   unfolding operationBy
   by-operation [] e = q
   by-operation (o ∷ os) e = chosen (eqb (f o) c) o (operationBy f os c) (e .0) (by-operation os (e .1))
@@ -145,16 +137,16 @@ module _ (s : Session) (m : Message) (h : Host) (a : Able m h) where
     at-rsp o (some i) e = bare-fits [] z f (o .cmp) e
 
     started : (sign : ℕ) (o : Operation) → isReply (o .rsp) ≡ true → Fitting (starts s sign o z)
-    started sign o e = by-test Fitting (below (highestOf s) z) _ _ (at-start sign o (freePlace (s .station)) e) tt
+    started sign o e = by-test Fitting (isBelow (highestOf s) z) _ _ (at-start sign o (freePlace (s .station)) e) tt
 
-    answered : (o : Operation) → isBare (o .cmp) ≡ true → Fitting (respondAt s o z (placeOf z (o .start) (s .centre)))
-    answered o e = at-rsp o (placeOf z (o .start) (s .centre)) e
+    answered : (o : Operation) → isBare (o .cmp) ≡ true → Fitting (respondAt s o z (entryPlace z (o .start) (s .centre)))
+    answered o e = at-rsp o (entryPlace z (o .start) (s .centre)) e
 
     all-started : (sign : ℕ) → Each (λ o. Fitting (starts s sign o z)) stationStarts
     unfolding stationStarts commandOf commands placeIn
     all-started sign = (started sign _ refl, (started sign _ refl, (started sign _ refl, tt)))
 
-    all-answered : Each (λ o. Fitting (respondAt s o z (placeOf z (o .start) (s .centre)))) centreStarts
+    all-answered : Each (λ o. Fitting (respondAt s o z (entryPlace z (o .start) (s .centre)))) centreStarts
     unfolding centreStarts commandOf commands placeIn
     all-answered = (answered _ refl, (answered _ refl, (answered _ refl, (answered _ refl, tt))))
 
@@ -162,7 +154,7 @@ module _ (s : Session) (m : Message) (h : Host) (a : Able m h) where
     unfolding inOpen
     operating sign c =
         by-operation _ (λ o. o .start) _ c
-        (by-choice Fitting (operationBy (λ o. o .cmp) stationStarts c) _ _ (λ o. at-cmp (placeOf z (o .start) (s .station)))
+        (by-choice Fitting (operationBy (λ o. o .cmp) stationStarts c) _ _ (λ o. at-cmp (entryPlace z (o .start) (s .station)))
         (by-operation _ (λ o. o .rsp) _ c tt centreStarts all-answered))
         stationStarts (all-started sign)
 

@@ -2,26 +2,20 @@
 -- Assumes nothing.
 use mathlib.Core.Path.{_≡_, refl, sym, ap, _∙_}
 use mathlib.Core.Bool.{Bool, true, false, not, _&&_}
-use mathlib.Core.List.{List}
-use mathlib.Core.Option.{some, none}
+use mathlib.Core.{List.List, Option.some, Option.none}
 use Prim.Native.Nat.{ℕ, suc, _+_, _-_, _*_, _≤_, _<_, _^_}
 use native.Mathlib.Numerals.{add-one}
 use native.Mathlib.Omega.{arith}
-use lib.Dec.{eqb}
-use lib.IntN.{ℤ, pos, negsuc}
-use lib.Signed.{mag}
+use lib.{Dec.eqb, IntN.ℤ, IntN.pos, IntN.negsuc, Signed.mag, Seq.drop-cons}
 use lib.ListN.{length, drop, getD, drop-of-length-le}
-use lib.Seq.{drop-cons}
 use mir.Syntax.{w64}
 use mir.Val.{toZ, ofZ, SFits}
 use borrow.Author.Tests.{eq-eqb, ne-eqb, eqb-true, eqb-false}
-use Rattle.session.specs.Session.{Entry}
-use Rattle.session.specs.Place.{sameId, isFree, matches, entry, noEntry, firstFrom, freePlace, placeOf, placeNumber}
-use Rattle.session.specs.Image.{idAt, entriesAt}
+use Rattle.session.specs.{Session.Entry, Image.idAt, Image.entriesAt}
+use Rattle.session.specs.Place.{sameId, isFree, matches, entry, noEntry, firstFrom, freePlace, entryPlace}
 use Rattle.session.proofs.Image.{entries-long}
-use Rattle.steps.proofs.Tests.{and-assoc}
-use Rattle.steps.proofs.Lying.{entry-at}
-use Rattle.steps.proofs.Knowing.{kept}
+use Rattle.steps.specs.code.Lies.{placeNumber}
+use Rattle.steps.proofs.{Tests.and-assoc, Lying.entry-at, Knowing.kept}
 
 same-test : (a b c d : ℕ) (x : Bool) → eqb c d ≡ x → (a ≡ b → c ≡ d) → (c ≡ d → a ≡ b) → eqb a b ≡ eqb c d
 same-test a b c d true e f g = eq-eqb a b (g (eqb-true c d e)) ∙ sym e
@@ -88,11 +82,11 @@ module _ (d : List ℕ) (ids i : ℕ)
 
 -- one with an ID and kind, the ID as the machine has it
 module _ (d : List ℕ) (ids kinds i : ℕ) (y : ℤ) (s : SFits w64 y) (k : ℕ)
-    (e : placeOf (toZ w64 (ofZ w64 y)) k (entriesAt d ids kinds 16) ≡ firstFrom (matches (toZ w64 (ofZ w64 y)) k) i (drop i (entriesAt d ids kinds 16))) where
-  place-is : placeNumber (placeOf y k (entriesAt d ids kinds 16)) ≡ placeNumber (firstFrom (matches (toZ w64 (ofZ w64 y)) k) i (drop i (entriesAt d ids kinds 16)))
-  place-is = ap (λ (x : ℤ). placeNumber (placeOf x k (entriesAt d ids kinds 16))) (sym (kept y (s .sfits))) ∙ ap placeNumber e
+    (e : entryPlace (toZ w64 (ofZ w64 y)) k (entriesAt d ids kinds 16) ≡ firstFrom (matches (toZ w64 (ofZ w64 y)) k) i (drop i (entriesAt d ids kinds 16))) where
+  place-is : placeNumber (entryPlace y k (entriesAt d ids kinds 16)) ≡ placeNumber (firstFrom (matches (toZ w64 (ofZ w64 y)) k) i (drop i (entriesAt d ids kinds 16)))
+  place-is = ap (λ (x : ℤ). placeNumber (entryPlace x k (entriesAt d ids kinds 16))) (sym (kept y (s .sfits))) ∙ ap placeNumber e
 
-  pub match-none : 16 ≤ i → 16 ≡ placeNumber (placeOf y k (entriesAt d ids kinds 16))
+  pub match-none : 16 ≤ i → 16 ≡ placeNumber (entryPlace y k (entriesAt d ids kinds 16))
   match-none h = sym (place-is ∙ ap placeNumber (found-none (matches (toZ w64 (ofZ w64 y)) k) (entriesAt d ids kinds 16) i (none-left d ids kinds i h)))
 
   module _ (h : i < 16) (z : ℤ) (m : mag z < 0x8000000000000000) (q : z ≡ idAt d (ids + 8 * i))
@@ -102,10 +96,10 @@ module _ (d : List ℕ) (ids kinds i : ℕ) (y : ℤ) (s : SFits w64 y) (k : ℕ
         ap (matches (toZ w64 (ofZ w64 y)) k) (there d ids kinds i h z q)
         ∙ sym (r ∙ ap (λ (x : ℤ). matches (toZ w64 (ofZ w64 y)) k (entry x (getD d (kinds + i) 0))) (kept z m))
 
-    pub match-here : b ≡ true → i ≡ placeNumber (placeOf y k (entriesAt d ids kinds 16))
+    pub match-here : b ≡ true → i ≡ placeNumber (entryPlace y k (entriesAt d ids kinds 16))
     match-here t =
         sym (place-is ∙ ap placeNumber (found-here (matches (toZ w64 (ofZ w64 y)) k) (entriesAt d ids kinds 16) i (inside d ids kinds i h) (match-there ∙ t)))
 
     pub match-later : b ≡ false
-        → placeOf (toZ w64 (ofZ w64 y)) k (entriesAt d ids kinds 16) ≡ firstFrom (matches (toZ w64 (ofZ w64 y)) k) (i + 1) (drop (i + 1) (entriesAt d ids kinds 16))
+        → entryPlace (toZ w64 (ofZ w64 y)) k (entriesAt d ids kinds 16) ≡ firstFrom (matches (toZ w64 (ofZ w64 y)) k) (i + 1) (drop (i + 1) (entriesAt d ids kinds 16))
     match-later t = e ∙ found-later (matches (toZ w64 (ofZ w64 y)) k) (entriesAt d ids kinds 16) i (inside d ids kinds i h) (match-there ∙ t)

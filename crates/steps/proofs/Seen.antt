@@ -4,23 +4,18 @@ use mathlib.Core.Path.{_≡_, refl, sym, _∙_}
 use mathlib.Core.Bool.{Bool, true, false, _&&_}
 use mathlib.Core.List.{List}
 use Prim.Native.Nat.{ℕ}
-use lib.Dec.{eqb, leb}
-use lib.ListN.{length}
+use lib.{Dec.eqb, Dec.leb, ListN.length}
 use borrow.Author.Tests.{eqb-true}
-use Rattle.octets.specs.Bytes.{IsBytes, putAt}
-use Rattle.octets.specs.Choice.{either}
+use Rattle.octets.specs.{Bytes.IsBytes, Bytes.putAt, Choice.either}
 use Rattle.record.specs.declared.Message.{Message}
 use Rattle.record.specs.Written.{frameFor}
-use Rattle.session.specs.Session.{Session}
-use Rattle.session.specs.Arrive.{Outcome, arrives}
-use Rattle.session.specs.Centre.{centreBegins, lost}
+use Rattle.session.specs.{Session.Session, Arrive.Outcome, Arrive.arrives, Centre.centreBegins, Centre.lost}
+use Rattle.session.specs.{Image.sessionImage, Image.sessionAt, Image.isSession}
 use Rattle.session.specs.Run.{Event, reached, after, lossOf}
-use Rattle.session.specs.Image.{sessionImage, sessionAt, isSession}
-use Rattle.session.proofs.Image.{tested}
-use Rattle.session.proofs.Back.{Held, session-is, session-back}
+use Rattle.session.proofs.{Image.tested, Back.Held, Back.session-is, Back.session-back}
 use Rattle.session.proofs.Holding.{Holds, held-in, arrival-held, begin-held, loss-held}
 use Rattle.steps.specs.declared.Answer.{Answer}
-use Rattle.steps.specs.Called.{Called, called, refusedAs, doneAs, refuses, calledBy, hostOf, arriveOn, beginOn, lostAnswer, lostSession}
+use Rattle.steps.specs.Called.{Called, called, refusedAs, doneAs, stepRefuses, calledBy, hostOf, arriveOn, beginOn, lostAnswer, lostSession}
 
 -- after a call: the session t that the rule made of s; where the call was refused, by the rule or with 20, s itself
 abbrev pub unlessRefused : Answer → Session → Session → Session
@@ -54,7 +49,7 @@ module _ (d : List ℕ) (bytes : IsBytes d) where
   module _ (room : List ℕ) where
     -- a step whose message is written, or has no room
     sent-seen : (w : ℕ) (t : Session) (m : Message) (l f : List ℕ) → isSession d ≡ true → Held t → (b : Bool)
-        → ShowsOf d (Outcome.replies w t m l) (either b (λ _. called (doneAs w (length f)) (sessionImage t) (putAt room 0 f)) (λ _. refuses 20 d room))
+        → ShowsOf d (Outcome.replies w t m l) (either b (λ _. called (doneAs w (length f)) (sessionImage t) (putAt room 0 f)) (λ _. stepRefuses 20 d room))
     sent-seen w t m l f e h true = image-seen e t h
     sent-seen w t m l f e h false = (refl, refl)
 
@@ -72,7 +67,7 @@ module _ (d : List ℕ) (bytes : IsBytes d) where
           rule = arrives (sessionAt d) m lent (hostOf e u g)
 
           go : (a : Bool) → isSession d ≡ a → (b : Bool) → eqb (length u) 16 ≡ b → (c : Bool)
-              → ShowsOf d rule (either a (λ _. calledBy d room (either (b && c) (λ _. rule) (λ _. Outcome.refused 15))) (λ _. refuses 15 d room))
+              → ShowsOf d rule (either a (λ _. calledBy d room (either (b && c) (λ _. rule) (λ _. Outcome.refused 15))) (λ _. stepRefuses 15 d room))
           go true p true q true = outcome-seen rule p (arrival-held (sessionAt d) (held p) m lent (hostOf e u g) (eqb-true (length u) 16 q))
           go true p true q false = (refl, refl)
           go true p false q c = (refl, refl)
@@ -85,7 +80,7 @@ module _ (d : List ℕ) (bytes : IsBytes d) where
           rule : Outcome
           rule = centreBegins (sessionAt d) m lent
 
-          go : (a : Bool) → isSession d ≡ a → ShowsOf d rule (either a (λ _. calledBy d room rule) (λ _. refuses 15 d room))
+          go : (a : Bool) → isSession d ≡ a → ShowsOf d rule (either a (λ _. calledBy d room rule) (λ _. stepRefuses 15 d room))
           go true p = outcome-seen rule p (begin-held (sessionAt d) (held p) m lent)
           go false p = (refl, refl)
 

@@ -11,18 +11,14 @@ use lib.Seq.{take-add, take-all, drop-at, drop-drop, getD-take, getD-drop}
 use mir.Syntax.{w64}
 use mir.Val.{Fits}
 use borrow.Author.Tests.{eq-eqb, eqb-true}
-use Rattle.octets.specs.Number.{bigAt, ifThere}
-use Rattle.octets.specs.Bytes.{IsBytes, bigBytes, putAt, putNumber}
-use Rattle.octets.proofs.Digits.{length-big, big-here, big-again}
-use Rattle.octets.proofs.Places.{same-big}
-use Rattle.octets.proofs.Ranges.{same-test}
-use Rattle.octets.proofs.Reading.{Told, is-bytes, if-there}
+use Rattle.octets.specs.{Number.bigAt, Number.ifThere, Bytes.IsBytes, Bytes.bigBytes, Bytes.putAt, code.Put.putNumber}
+use Rattle.octets.proofs.{Digits.length-big, Digits.big-here, Digits.big-again, Places.same-big, Ranges.same-test}
+use Rattle.octets.proofs.{Reading.Told, Reading.is-bytes, Reading.if-there}
 use Rattle.octets.proofs.Writing.{put-then, put-next, put-none, length-put}
 use Rattle.names.specs.Names.{sameBytes}
 use Rattle.names.proofs.Same.{same-eq, eq-same}
 use Rattle.record.specs.declared.Sixteen.{Sixteen}
-use Rattle.record.specs.Record.{fourOf, sixteenOf}
-use Rattle.record.specs.Says.{sixteenBytes}
+use Rattle.record.specs.{Record.fourOf, Record.sixteenOf, Says.sixteenBytes}
 use Rattle.steps.proofs.Tests.{both}
 
 -- the numbers of bytes that write them, and the bytes of numbers that are read

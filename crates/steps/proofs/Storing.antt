@@ -5,25 +5,18 @@ use mathlib.Core.Bool.{true}
 use mathlib.Core.List.{List, [], _∷_, _++_, append-assoc}
 use Prim.Native.Nat.{ℕ, _+_, _*_, _≤_, _<_}
 use native.Mathlib.Omega.{arith}
-use lib.IntN.{ℤ, pos}
-use lib.Signed.{mag}
+use lib.{IntN.ℤ, IntN.pos, Signed.mag, Seq.drop-cons, Seq.length-take-le}
 use mir.Syntax.{w64}
 use mir.Val.{toZ, ofZ}
 use lib.ListN.{length, getD, set, take, drop, replicate, length-set, length-append, length-drop, length-replicate, take-append-drop}
-use lib.Seq.{drop-cons, length-take-le}
-use Rattle.octets.specs.Bytes.{littleBytes, putAt, putNumber}
-use Rattle.octets.specs.Signed.{bitsOf}
-use Rattle.octets.proofs.Digits.{length-little}
-use Rattle.octets.proofs.Writing.{length-put}
-use Rattle.session.specs.Session.{Session}
-use Rattle.session.specs.Session.State.{Waiting, Connecting, Open}
-use Rattle.session.specs.Place.{entry, taken, freed}
+use Rattle.octets.specs.{Bytes.littleBytes, Bytes.putAt, code.Put.putNumber, Signed.bitsOf}
+use Rattle.octets.proofs.{Digits.length-little, Writing.length-put}
+use Rattle.session.specs.{Session.Session, Session.State.Waiting, Session.State.Connecting, Session.State.Open, Place.entry, Place.taken, Place.freed}
+use Rattle.session.specs.{Centre.stored, Image.wordBytes, Image.sessionImage, Image.sessionAt}
 use Rattle.session.specs.Arrive.{withStation, withCentre, resumed, opened, begunWith}
-use Rattle.session.specs.Centre.{stored}
-use Rattle.session.specs.Image.{wordBytes, sessionImage, sessionAt}
 use Rattle.session.proofs.Image.{tested, image-back, Sized, sized, zeros-again, part-then}
 use Rattle.session.proofs.Stored.{put-part, set-right, highest-stored, lowest-stored, station-stored, centre-stored, state-stored, mark-stored}
-use Rattle.steps.specs.Lies.{Lies}
+use Rattle.steps.specs.code.Lies.{Lies}
 use Rattle.steps.proofs.Knowing.{kept}
 
 -- a store after a store keeps the length

@@ -1,18 +1,12 @@
 -- Document 01, "Session": what a call answers, and what stands in the session's bytes and in the room afterwards.
 use Prim.Native.Nat.{ℕ}
-use mathlib.Core.Bool.{_&&_}
-use mathlib.Core.List.{List}
-use lib.Dec.{eqb, leb}
-use lib.ListN.{length}
-use Rattle.octets.specs.Choice.{either}
-use Rattle.octets.specs.Bytes.{putAt}
+use mathlib.Core.{Bool._&&_, List.List}
+use lib.{Dec.eqb, Dec.leb, ListN.length}
+use Rattle.octets.specs.{Choice.either, Bytes.putAt}
 use Rattle.record.specs.declared.Message.{Message}
 use Rattle.record.specs.Written.{frameFor}
-use Rattle.session.specs.Session.{Session, Host}
-use Rattle.session.specs.Arrive.{Outcome, arrives}
-use Rattle.session.specs.Centre.{centreBegins, lost}
-use Rattle.session.specs.Run.{lossOf}
-use Rattle.session.specs.Image.{sessionImage, sessionAt, isSession}
+use Rattle.session.specs.{Session.Session, Session.Host, Arrive.Outcome, Arrive.arrives, Centre.centreBegins, Centre.lost, Run.lossOf}
+use Rattle.session.specs.{Image.sessionImage, Image.sessionAt, Image.isSession}
 use Rattle.steps.specs.declared.Answer.{Answer}
 
 -- an answer, and the session's bytes and the room afterwards
@@ -32,23 +26,23 @@ abbrev pub doneAs : ℕ → ℕ → Answer
 doneAs w n = record { refusal = 0; happened = w; length = n }
 
 -- a refused call changes nothing
-abbrev pub refuses : ℕ → List ℕ → List ℕ → Called
-refuses n d room = called (refusedAs n) d room
+abbrev pub stepRefuses : ℕ → List ℕ → List ℕ → Called
+stepRefuses n d room = called (refusedAs n) d room
 
 -- the step is taken if its frame has place; else 20 last and no step
 abbrev pub sends : ℕ → List ℕ → Session → List ℕ → List ℕ → Called
 sends w d t frame room =
-    either (leb (length frame) (length room)) (λ _. called (doneAs w (length frame)) (sessionImage t) (putAt room 0 frame)) (λ _. refuses 20 d room)
+    either (leb (length frame) (length room)) (λ _. called (doneAs w (length frame)) (sessionImage t) (putAt room 0 frame)) (λ _. stepRefuses 20 d room)
 
 -- the rule's step, seen through the bytes
 abbrev pub calledBy : List ℕ → List ℕ → Outcome → Called
-calledBy d room (Outcome.refused n) = refuses n d room
+calledBy d room (Outcome.refused n) = stepRefuses n d room
 calledBy d room (Outcome.silent w t) = called (doneAs w 0) (sessionImage t) room
 calledBy d room (Outcome.replies w t m e) = sends w d t (frameFor m e) room
 
 -- bytes that are no session's, and host bytes of a wrong length, are 15 before all others
 abbrev pub onSession : List ℕ → List ℕ → (Session → Outcome) → Called
-onSession d room step = either (isSession d) (λ _. calledBy d room (step (sessionAt d))) (λ _. refuses 15 d room)
+onSession d room step = either (isSession d) (λ _. calledBy d room (step (sessionAt d))) (λ _. stepRefuses 15 d room)
 
 abbrev pub hostOf : ℕ → List ℕ → List ℕ → Host
 hostOf e u g = record { scEui = e; uuid = u; sign = g }

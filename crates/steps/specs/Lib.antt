@@ -1,2 +1,2 @@
-pub mod Lies
 pub mod Called
+pub mod code

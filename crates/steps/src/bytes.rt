@@ -7,8 +7,7 @@ ghost use Prim.Native.Nat.{_+_, _≤_};
 ghost use lib.ListN.{length, take, drop, replicate};
 ghost use Rattle.names.specs.Names.{sameBytes};
 ghost use Rattle.octets.specs.Bytes.{putAt};
-ghost use Rattle.record.specs.Record.{fourOf, sixteenOf};
-ghost use Rattle.record.specs.Says.{sixteenBytes};
+ghost use Rattle.record.specs.{Record.fourOf, Record.sixteenOf, Says.sixteenBytes};
 
 pub fn sixteen_at(d: &[u8], at: usize) -> Sixteen
     requires { ⌜ at + 16 ≤ length (now d) ⌝ }

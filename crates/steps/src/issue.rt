@@ -1,24 +1,23 @@
 // Operations that the centre starts.
 use crate::Answer;
 use crate::done;
-use crate::lies::CENTRE_IDS;
-use crate::lies::lowest_of;
+use crate::happened;
+use crate::lies;
 use crate::places::free_place;
 use crate::refused;
 use crate::stored::take_centre;
-use faults::fault;
+use names::numbers;
+use octets::refusals;
 use record::Body;
 use record::Message;
-use record::command_in;
 use writer::Written;
-use writer::put;
 ghost use mathlib.Core.Path.{_≡_};
 ghost use Rattle.record.specs.Record.{commandIn};
-ghost use Rattle.session.specs.Place.{freePlace};
-ghost use Rattle.session.specs.Centre.{begins, beginAt, kindBegins};
-ghost use Rattle.session.specs.Image.{sessionAt};
-ghost use Rattle.steps.specs.Lies.{Lies, startedBy, unnumbered};
-ghost use Rattle.steps.specs.Called.{Called, called, calledBy};
+ghost use Rattle.session.specs.{Place.freePlace, Centre.begins, Centre.beginAt, Centre.kindBegins, Image.sessionAt};
+ghost use Rattle.steps.specs.{code.Lies.Lies, code.Lies.startedBy, code.Lies.unnumbered, Called.Called, Called.called, Called.calledBy};
+
+// Below it there is none to issue.
+const LEAST_ID: i64 = -0x8000_0000_0000_0000;
 
 // The centre starts ping, status, attPrp, detPrp.
 pub fn begins(d: &mut [u8], b: Body, lent: &[u8], room: &mut [u8]) -> Answer
@@ -26,9 +25,13 @@ pub fn begins(d: &mut [u8], b: Body, lent: &[u8], room: &mut [u8]) -> Answer
     ensures { λ r. ⌜ _≡_ {A = Called} (called r (now (d .exit)) (now (room .exit)))
         (calledBy (now (d .entry)) (now (room .entry)) (kindBegins (sessionAt (now (d .entry))) (commandIn b) (unnumbered b) (now (lent .entry)))) ⌝ }
 {
-    let command = command_in(b);
-    if (command != 9) & (command != 12) & (command != 5) & (command != 6) {
-        return refused(17);
+    let command = record::command_in(b);
+    if (command != numbers::PING)
+        & (command != numbers::STATUS)
+        & (command != numbers::ATT_PRP)
+        & (command != numbers::DET_PRP)
+    {
+        return refused(refusals::STATE);
     }
     issues(d, command, b, lent, room)
 }
@@ -39,9 +42,9 @@ fn issues(d: &mut [u8], start: u8, b: Body, lent: &[u8], room: &mut [u8]) -> Ans
     ensures { λ r. ⌜ _≡_ {A = Called} (called r (now (d .exit)) (now (room .exit)))
         (calledBy (now (d .entry)) (now (room .entry)) (begins (sessionAt (now (d .entry))) (startedBy start 0) (unnumbered b) (now (lent .entry)))) ⌝ }
 {
-    let lowest = lowest_of(d);
-    if lowest == -0x8000_0000_0000_0000 {
-        return refused(18);
+    let lowest = lies::lowest_of(d);
+    if lowest == LEAST_ID {
+        return refused(refusals::ID_OUT_OF_ORDER);
     }
     let m = Message {
         op_id: lowest - 1,
@@ -56,20 +59,20 @@ fn issue(d: &mut [u8], start: u8, m: Message, lent: &[u8], room: &mut [u8]) -> A
     ensures { λ r. ⌜ _≡_ {A = Called} (called r (now (d .exit)) (now (room .exit)))
         (calledBy (now (d .entry)) (now (room .entry)) (beginAt (sessionAt (now (d .entry))) (startedBy start 0) (m .«op_id») m (now (lent .entry)) (freePlace (sessionAt (now (d .entry)) .centre)))) ⌝ }
 {
-    let i = free_place(d, CENTRE_IDS);
-    if i == 16 {
-        return refused(19);
+    let i = free_place(d, lies::CENTRE_IDS);
+    if i == lies::PLACES {
+        return refused(refusals::SIXTEEN_OPEN);
     }
-    if fault(m, lent) != 0 {
-        return refused(15);
+    if faults::fault(m, lent) != 0 {
+        return refused(refusals::INVALID);
     }
     let id = m.op_id;
-    let w = put(m, lent, room);
+    let w = writer::put(m, lent, room);
     match w {
         Written::Refused(k) => refused(k),
         Written::Whole(n) => {
             take_centre(d, i, id, start);
-            done(7, n)
+            done(happened::ISSUED, n)
         }
     }
 }

@@ -2,6 +2,7 @@
 // if it has one, and stores what it changes only then, so that 20 is last and no step.
 mod bytes;
 mod connect;
+mod happened;
 mod issue;
 mod lies;
 mod operate;
@@ -10,19 +11,12 @@ mod reply;
 mod stored;
 
 use bytes::four_of;
-use faults::fault;
-use lies::OPEN;
-use lies::STATE;
-use lies::STORED;
-use lies::WAITING;
-use lies::is_session;
+use octets::refusals;
 use record::Message;
-use record::command_in;
 ghost use mathlib.Core.Path.{_≡_};
 ghost use lib.ListN.{length};
-ghost use Rattle.session.specs.Arrive.{inState};
-ghost use Rattle.session.specs.Image.{sessionAt};
-ghost use Rattle.steps.specs.Lies.{Lies};
+ghost use Rattle.session.specs.{Arrive.inState, Image.sessionAt};
+ghost use Rattle.steps.specs.code.Lies.{Lies};
 ghost use Rattle.steps.specs.Called.{Called, called, refusedAs, doneAs, calledBy, hostOf, arriveOn, beginOn, lostAnswer, lostSession};
 
 // Document 01's number and zeros besides; or what happened, and how many bytes stand in the room.
@@ -65,14 +59,14 @@ pub fn arrive(
 ) -> Answer
     ensures { λ r. ⌜ _≡_ {A = Called} (called r (now (d .exit)) (now (room .exit))) (arriveOn (now (d .entry)) m (now (lent .entry)) «sc_eui» (now (uuid .entry)) (now (sign .entry)) (now (room .entry))) ⌝ }
 {
-    if !is_session(d) {
-        return refused(15);
+    if !lies::is_session(d) {
+        return refused(refusals::INVALID);
     }
     if (uuid.len() != 16) | (sign.len() != 4) {
-        return refused(15);
+        return refused(refusals::INVALID);
     }
-    if fault(m, lent) != 0 {
-        return refused(15);
+    if faults::fault(m, lent) != 0 {
+        return refused(refusals::INVALID);
     }
     in_state(d, m, sc_eui, uuid, sign, room)
 }
@@ -89,14 +83,14 @@ fn in_state(
     ensures { λ r. ⌜ _≡_ {A = Called} (called r (now (d .exit)) (now (room .exit)))
         (calledBy (now (d .entry)) (now (room .entry)) (inState (sessionAt (now (d .entry)) .state) (sessionAt (now (d .entry))) m (hostOf «sc_eui» (now (uuid .entry)) (now (sign .entry))))) ⌝ }
 {
-    let state = d[STATE];
-    if state == WAITING {
+    let state = d[lies::STATE];
+    if state == lies::WAITING {
         return connect::in_waiting(d, m, sc_eui, uuid, room);
     }
     let id = m.op_id;
     let b = m.body;
-    let command = command_in(b);
-    if state == OPEN {
+    let command = record::command_in(b);
+    if state == lies::OPEN {
         return operate::in_open(d, four_of(sign), command, id, room);
     }
     connect::in_connecting(d, command, id)
@@ -106,11 +100,11 @@ fn in_state(
 pub fn begin(d: &mut [u8], m: Message, lent: &[u8], room: &mut [u8]) -> Answer
     ensures { λ r. ⌜ _≡_ {A = Called} (called r (now (d .exit)) (now (room .exit))) (beginOn (now (d .entry)) m (now (lent .entry)) (now (room .entry))) ⌝ }
 {
-    if !is_session(d) {
-        return refused(15);
+    if !lies::is_session(d) {
+        return refused(refusals::INVALID);
     }
-    if d[STATE] != OPEN {
-        return refused(17);
+    if d[lies::STATE] != lies::OPEN {
+        return refused(refusals::STATE);
     }
     let b = m.body;
     issue::begins(d, b, lent, room)
@@ -120,13 +114,13 @@ pub fn begin(d: &mut [u8], m: Message, lent: &[u8], room: &mut [u8]) -> Answer
 pub fn lose(d: &mut [u8]) -> Answer
     ensures { λ r. ⌜ (r ≡ lostAnswer (now (d .entry))) × (now (d .exit) ≡ lostSession (now (d .entry))) ⌝ }
 {
-    if !is_session(d) {
-        return refused(15);
+    if !lies::is_session(d) {
+        return refused(refusals::INVALID);
     }
-    if d[STATE] == WAITING {
-        return done(9, 0);
+    if d[lies::STATE] == lies::WAITING {
+        return done(happened::NOTHING, 0);
     }
-    d[STATE] = WAITING;
-    d[STORED] = 1;
-    done(8, 0)
+    d[lies::STATE] = lies::WAITING;
+    d[lies::STORED] = 1;
+    done(happened::STORED, 0)
 }

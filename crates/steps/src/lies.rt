@@ -1,12 +1,10 @@
 // A session where it lies: what its bytes say. The places are those of the C struct chz_session.
-use octets::little_at;
-use octets::signed_of;
 ghost use mathlib.Core.Path.{_≡_};
 ghost use Prim.Native.Nat.{_+_, _≤_};
 ghost use lib.ListN.{length, drop};
 ghost use Rattle.session.specs.Arrive.{highestOf, lowestOf};
 ghost use Rattle.session.specs.Image.{idAt, sessionAt, areZeros, isSession};
-ghost use Rattle.steps.specs.Lies.{Lies};
+ghost use Rattle.steps.specs.code.Lies.{Lies};
 
 pub const SIZE: usize = 368;
 
@@ -31,6 +29,9 @@ pub const STATE: usize = 344;
 pub const STORED: usize = 345;
 
 pub const SPARE: usize = 346;
+
+// How many operations each side may have open.
+pub const PLACES: usize = 16;
 
 pub const WAITING: u8 = 0;
 
@@ -66,7 +67,7 @@ pub fn id_at(d: &[u8], at: usize) -> i64
     requires { ⌜ at + 8 ≤ length (now d) ⌝ }
     ensures { λ r. ⌜ r ≡ idAt (now (d .entry)) at ⌝ }
 {
-    signed_of(little_at(d, at, 8))
+    octets::signed_of(octets::little_at(d, at, 8))
 }
 
 // Before any, both count as 0, as do a negative highest or a positive lowest handed in.

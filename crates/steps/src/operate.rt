@@ -1,30 +1,24 @@
 // Open: operations that the station starts and completes, and its answers to those of the centre.
 use crate::Answer;
 use crate::done;
-use crate::lies::CENTRE_IDS;
-use crate::lies::CENTRE_KINDS;
-use crate::lies::STATION_IDS;
-use crate::lies::STATION_KINDS;
-use crate::lies::highest_of;
+use crate::happened;
+use crate::lies;
 use crate::places::free_place;
 use crate::places::place_of;
 use crate::refused;
 use crate::reply::bare;
 use crate::reply::rsp;
-use crate::stored::free_centre;
-use crate::stored::free_station;
-use crate::stored::take_station;
+use crate::stored;
+use names::numbers;
+use octets::refusals;
 use writer::Written;
 use writer::put;
-ghost use mathlib.Core.Path.{_≡_};
-ghost use mathlib.Core.Bool.{true};
-ghost use mathlib.Core.List.{List};
+ghost use mathlib.Core.{Path._≡_, Bool.true, List.List};
 ghost use Prim.Native.Nat.{ℕ};
 ghost use Rattle.record.specs.Says.{isBare};
-ghost use Rattle.session.specs.Place.{freePlace, placeOf};
+ghost use Rattle.session.specs.{Place.freePlace, Place.entryPlace, Image.sessionAt};
 ghost use Rattle.session.specs.Arrive.{inOpen, starts, startAt, completeAt, respondAt};
-ghost use Rattle.session.specs.Image.{sessionAt};
-ghost use Rattle.steps.specs.Lies.{Lies, isReply, startedBy, endedBy};
+ghost use Rattle.steps.specs.code.Lies.{Lies, isReply, startedBy, endedBy};
 ghost use Rattle.steps.specs.Called.{Called, called, calledBy};
 
 pub fn in_open(d: &mut [u8], sign: u32, command: u8, id: i64, room: &mut [u8]) -> Answer
@@ -33,17 +27,17 @@ pub fn in_open(d: &mut [u8], sign: u32, command: u8, id: i64, room: &mut [u8]) -
         (calledBy (now (d .entry)) (now (room .entry)) (inOpen (sessionAt (now (d .entry))) sign command id)) ⌝ }
 {
     match command {
-        9 => starts(d, 9, 10, sign, id, room),
-        3 => starts(d, 3, 4, sign, id, room),
-        7 => starts(d, 7, 19, sign, id, room),
-        11 => completes(d, 9, id),
-        14 => completes(d, 3, id),
-        20 => completes(d, 7, id),
-        10 => answers(d, 9, 11, id, room),
-        2 => answers(d, 12, 13, id, room),
-        15 => answers(d, 5, 16, id, room),
-        17 => answers(d, 6, 18, id, room),
-        _ => refused(17),
+        numbers::PING => starts(d, numbers::PING, numbers::PING_RSP, sign, id, room),
+        numbers::DET => starts(d, numbers::DET, numbers::DET_RSP, sign, id, room),
+        numbers::UL_DATA => starts(d, numbers::UL_DATA, numbers::UL_DATA_RSP, sign, id, room),
+        numbers::PING_CMP => completes(d, numbers::PING, id),
+        numbers::DET_CMP => completes(d, numbers::DET, id),
+        numbers::UL_DATA_CMP => completes(d, numbers::UL_DATA, id),
+        numbers::PING_RSP => answers(d, numbers::PING, numbers::PING_CMP, id, room),
+        numbers::STATUS_RSP => answers(d, numbers::STATUS, numbers::STATUS_CMP, id, room),
+        numbers::ATT_PRP_RSP => answers(d, numbers::ATT_PRP, numbers::ATT_PRP_CMP, id, room),
+        numbers::DET_PRP_RSP => answers(d, numbers::DET_PRP, numbers::DET_PRP_CMP, id, room),
+        _ => refused(refusals::STATE),
     }
 }
 
@@ -53,8 +47,8 @@ fn starts(d: &mut [u8], start: u8, answer: u8, sign: u32, id: i64, room: &mut [u
     ensures { λ r. ⌜ _≡_ {A = Called} (called r (now (d .exit)) (now (room .exit)))
         (calledBy (now (d .entry)) (now (room .entry)) (starts (sessionAt (now (d .entry))) sign (startedBy start answer) id)) ⌝ }
 {
-    if id <= highest_of(d) {
-        return refused(18);
+    if id <= lies::highest_of(d) {
+        return refused(refusals::ID_OUT_OF_ORDER);
     }
     start_at(d, start, answer, sign, id, room)
 }
@@ -65,17 +59,17 @@ fn start_at(d: &mut [u8], start: u8, answer: u8, sign: u32, id: i64, room: &mut 
     ensures { λ r. ⌜ _≡_ {A = Called} (called r (now (d .exit)) (now (room .exit)))
         (calledBy (now (d .entry)) (now (room .entry)) (startAt (sessionAt (now (d .entry))) sign (startedBy start answer) id (freePlace (sessionAt (now (d .entry)) .station)))) ⌝ }
 {
-    let i = free_place(d, STATION_IDS);
-    if i == 16 {
-        return refused(19);
+    let i = free_place(d, lies::STATION_IDS);
+    if i == lies::PLACES {
+        return refused(refusals::SIXTEEN_OPEN);
     }
     let none = [0u8; 0];
     let w = put(rsp(sign, answer, id), &none, room);
     match w {
         Written::Refused(k) => refused(k),
         Written::Whole(n) => {
-            take_station(d, i, id, start);
-            done(4, n)
+            stored::take_station(d, i, id, start);
+            done(happened::STARTED, n)
         }
     }
 }
@@ -84,33 +78,33 @@ fn start_at(d: &mut [u8], start: u8, answer: u8, sign: u32, id: i64, room: &mut 
 fn completes(d: &mut [u8], start: u8, id: i64) -> Answer
     requires { ⌜ Lies (now d) ⌝ }
     ensures { λ r. ⌜ ((room : List ℕ) → _≡_ {A = Called} (called r (now (d .exit)) room)
-        (calledBy (now (d .entry)) room (completeAt (sessionAt (now (d .entry))) (placeOf id start (sessionAt (now (d .entry)) .station))))) ⌝ }
+        (calledBy (now (d .entry)) room (completeAt (sessionAt (now (d .entry))) (entryPlace id start (sessionAt (now (d .entry)) .station))))) ⌝ }
 {
-    let i = place_of(d, STATION_IDS, STATION_KINDS, id, start);
-    if i == 16 {
-        return refused(17);
+    let i = place_of(d, lies::STATION_IDS, lies::STATION_KINDS, id, start);
+    if i == lies::PLACES {
+        return refused(refusals::STATE);
     }
-    free_station(d, i);
-    done(5, 0)
+    stored::free_station(d, i);
+    done(happened::COMPLETED, 0)
 }
 
 // A matching Rsp is replied to with Cmp and frees the entry.
 fn answers(d: &mut [u8], start: u8, complete: u8, id: i64, room: &mut [u8]) -> Answer
     requires { ⌜ Lies (now d) × (isBare complete ≡ true) ⌝ }
     ensures { λ r. ⌜ _≡_ {A = Called} (called r (now (d .exit)) (now (room .exit)))
-        (calledBy (now (d .entry)) (now (room .entry)) (respondAt (sessionAt (now (d .entry))) (endedBy start complete) id (placeOf id start (sessionAt (now (d .entry)) .centre)))) ⌝ }
+        (calledBy (now (d .entry)) (now (room .entry)) (respondAt (sessionAt (now (d .entry))) (endedBy start complete) id (entryPlace id start (sessionAt (now (d .entry)) .centre)))) ⌝ }
 {
-    let i = place_of(d, CENTRE_IDS, CENTRE_KINDS, id, start);
-    if i == 16 {
-        return refused(17);
+    let i = place_of(d, lies::CENTRE_IDS, lies::CENTRE_KINDS, id, start);
+    if i == lies::PLACES {
+        return refused(refusals::STATE);
     }
     let none = [0u8; 0];
     let w = put(bare(complete, id), &none, room);
     match w {
         Written::Refused(k) => refused(k),
         Written::Whole(n) => {
-            free_centre(d, i);
-            done(6, n)
+            stored::free_centre(d, i);
+            done(happened::ANSWERED, n)
         }
     }
 }

@@ -1,11 +1,8 @@
 // The records that a session sends of its own.
-use message::MaybeVersion;
 use record::Body;
-use record::ConRsp;
 use record::Message;
-use record::Sixteen;
 ghost use mathlib.Core.Path.{_≡_};
-ghost use Rattle.session.specs.Arrive.{bareOf, conRspOf, detRspOf, rspOf};
+ghost use Rattle.session.specs.Arrive.{bareOf, conRspWith, detRspOf, rspOf};
 
 // A message of command and opId alone.
 pub fn bare(command: u8, id: i64) -> Message
@@ -18,16 +15,16 @@ pub fn bare(command: u8, id: i64) -> Message
 }
 
 // The answer to con: version 1.0.0, the host's scEui, whether it resumed, the session's centre UUID.
-pub fn con_rsp(sc_eui: u64, resumed: bool, uuid: Sixteen) -> Message
-    ensures { λ r. ⌜ r ≡ conRspOf «sc_eui» resumed uuid ⌝ }
+pub fn con_rsp(sc_eui: u64, resumed: bool, uuid: record::Sixteen) -> Message
+    ensures { λ r. ⌜ r ≡ conRspWith «sc_eui» resumed uuid ⌝ }
 {
-    let version = MaybeVersion {
+    let version = message::MaybeVersion {
         here: true,
         major: 1,
         minor: 0,
         patch: 0,
     };
-    let x = ConRsp {
+    let x = record::ConRsp {
         version: version,
         sc_eui: sc_eui,
         sn_resume: resumed,
@@ -43,7 +40,7 @@ pub fn con_rsp(sc_eui: u64, resumed: bool, uuid: Sixteen) -> Message
 pub fn rsp(sign: u32, command: u8, id: i64) -> Message
     ensures { λ r. ⌜ r ≡ rspOf sign command id ⌝ }
 {
-    if command == 4 {
+    if command == names::numbers::DET_RSP {
         return det_rsp(id, sign);
     }
     bare(command, id)

@@ -1,10 +1,8 @@
 -- What the comparisons of numbers ask: -1 - k stays within 64 bits, and what equals itself is no NaN. Assumes nothing.
-use mathlib.Core.Path.{_≡_, refl, ap}
-use mathlib.Core.Bool.{true, not}
+use mathlib.Core.{Path._≡_, Path.refl, Path.ap, Bool.true, Bool.not}
 use Prim.Native.Nat.{ℕ, zero, suc, _^_, _<_, _≤_}
 use native.Mathlib.Omega.{arith}
-use lib.Dec.{T}
-use lib.IntN.{pos, negsuc, _-ℤ_}
+use lib.{Dec.T, IntN.pos, IntN.negsuc, IntN._-ℤ_}
 use lib.Ieee.{Float, nan, inf, fin, eq, isNan}
 use mir.Syntax.{w64}
 use mir.Val.{toZ, SFits}

@@ -1,9 +1,6 @@
 // Document 01's examples of limits: sizes and counts on both sides, and a length that is not to be trusted.
 use crate::payload;
 use crate::text;
-use crate::text::next;
-use crate::text::say;
-use crate::text::say_number;
 use frame::Framed;
 
 // How many limits were tried, and how many answers were wrong.
@@ -18,20 +15,20 @@ pub fn run(room: &mut [u8]) {
     c = elements(room, c);
     c = promise(room, c);
     c = frames(room, c);
-    say_number(c.tried);
-    say(b" limits, ");
-    say_number(c.wrong);
-    say(b" wrong\n");
+    text::say_number(c.tried);
+    text::say(b" limits, ");
+    text::say_number(c.wrong);
+    text::say(b" wrong\n");
 }
 
 fn judged(count: Count, right: bool, limit: &[u8]) -> Count {
     let mut c = count;
-    c.tried = next(c.tried);
+    c.tried = text::next(c.tried);
     if !right {
-        c.wrong = next(c.wrong);
-        say(b"wrong: ");
-        say(limit);
-        say(b"\n");
+        c.wrong = text::next(c.wrong);
+        text::say(b"wrong: ");
+        text::say(limit);
+        text::say(b"\n");
     }
     c
 }

@@ -2,9 +2,6 @@
 use crate::payload;
 use crate::text;
 use crate::text::Figure;
-use crate::text::next;
-use crate::text::say;
-use crate::text::say_number;
 
 // How many lines, cuts and numbers were tried, and how many answers were wrong.
 pub struct Tally {
@@ -34,20 +31,20 @@ pub fn none() -> Tally {
 }
 
 pub fn print(t: Tally) {
-    say_number(t.lines);
-    say(b" vectors, ");
-    say_number(t.cuts);
-    say(b" cuts, ");
-    say_number(t.numbers);
-    say(b" numbers, ");
-    say_number(t.wrong);
-    say(b" wrong\n");
+    text::say_number(t.lines);
+    text::say(b" vectors, ");
+    text::say_number(t.cuts);
+    text::say(b" cuts, ");
+    text::say_number(t.numbers);
+    text::say(b" numbers, ");
+    text::say_number(t.wrong);
+    text::say(b" wrong\n");
 }
 
 // Every test of one line.
 pub fn line(s: &[u8], room: &mut [u8], tally: Tally) -> Tally {
     let mut t = tally;
-    t.lines = next(t.lines);
+    t.lines = text::next(t.lines);
     let said = read(s);
     let n = payload::with_hex(room, text::word(s, 0));
     if !said.good {
@@ -71,14 +68,14 @@ pub fn line(s: &[u8], room: &mut [u8], tally: Tally) -> Tally {
 fn judged(tally: Tally, right: bool, expected: &[u8], x: u64) -> Tally {
     let mut t = tally;
     if !right {
-        t.wrong = next(t.wrong);
-        say(b"wrong: line ");
-        say_number(t.lines);
-        say(b": expected ");
-        say(expected);
-        say(b" ");
-        say_number(x);
-        say(b"\n");
+        t.wrong = text::next(t.wrong);
+        text::say(b"wrong: line ");
+        text::say_number(t.lines);
+        text::say(b": expected ");
+        text::say(expected);
+        text::say(b" ");
+        text::say_number(x);
+        text::say(b"\n");
     }
     t
 }
@@ -169,7 +166,7 @@ fn cuts(room: &[u8], n: usize, said: Said, tally: Tally) -> Tally {
 // The payload cut to k bytes: 3 for nothing, 8 where a key's lead byte is there that is no text's, else 4.
 fn cut(room: &[u8], k: usize, at: usize, tally: Tally) -> Tally {
     let mut t = tally;
-    t.cuts = next(t.cuts);
+    t.cuts = text::next(t.cuts);
     let number = payload::refusal(room, k);
     if k == 0 {
         return judged(t, number == 3, b"refusal 3 of the cut to", 0);
@@ -184,12 +181,12 @@ fn cut(room: &[u8], k: usize, at: usize, tally: Tally) -> Tally {
 fn number(room: &[u8], n: usize, said: Said, tally: Tally) -> Tally {
     let mut t = tally;
     if said.kind == b'i' {
-        t.numbers = next(t.numbers);
+        t.numbers = text::next(t.numbers);
         let right = payload::is_whole_number(room, n, said.minus, said.x);
         return judged(t, right, b"the integer, its sign left out,", said.x);
     }
     if said.kind == b'f' {
-        t.numbers = next(t.numbers);
+        t.numbers = text::next(t.numbers);
         let right = payload::is_real(room, n, said.x);
         return judged(t, right, b"the float whose 64 bits are the number", said.x);
     }

@@ -1,29 +1,23 @@
 -- One element: its tests in their order, where its body ends, what stands behind its head, and what the walk answers from that.
 -- Each law has the shape of what the code asks where it returns: the premises are what its tests showed there. Assumes nothing.
 use mathlib.Core.Path.{_≡_, refl, sym, ap, ap₂, _∙_}
-use mathlib.Core.Bool.{Bool, true, false}
-use mathlib.Core.List.{List}
+use mathlib.Core.{Bool.Bool, Bool.true, Bool.false, List.List}
 use Prim.Native.Nat.{ℕ, _+_, _-_, _*_, _^_, _≤_, _<_}
 use native.Mathlib.Omega.{arith}
-use lib.Dec.{leb, lit<, lit≤}
-use lib.ListN.{length, getD}
+use lib.{Dec.leb, Dec.lit<, Dec.lit≤, ListN.length, ListN.getD}
 use mir.Syntax.{w64}
 use mir.Val.{Fits}
 use borrow.Author.Tests.{le-leb, lt-leb, eq-eqb, ne-eqb}
 use Rattle.octets.specs.Number.{bigAt, ifThere}
 use Rattle.octets.proofs.Widths.{within}
-use Rattle.element.specs.declared.Shape.{Shape}
-use Rattle.element.specs.declared.Shape.the-variants.{Array}
+use Rattle.element.specs.declared.Shape.{Shape, the-variants.Array}
 use Rattle.element.specs.declared.Head.{Head}
-use Rattle.element.specs.declared.Span.{Span}
-use Rattle.element.specs.declared.Span.the-variants.{Cut, Ends, Holds}
-use Rattle.element.specs.declared.Step.{Step}
-use Rattle.element.specs.declared.Step.the-variants.{Next, Broken}
-use Rattle.element.specs.Lead.{rowIn, leadBytes, headOf}
-use Rattle.element.specs.Form.{Role, isText, notOuter, faultOf, bodyOf, contentOf, spanOf, spanned, elementOf, itemsOf}
+use Rattle.element.specs.declared.Span.{Span, the-variants.Cut, the-variants.Ends, the-variants.Holds}
+use Rattle.element.specs.declared.Step.{Step, the-variants.Next, the-variants.Broken}
+use Rattle.element.specs.{Lead.rowIn, Lead.leadBytes, Lead.headOf, code.Items.itemsOf}
+use Rattle.element.specs.Form.{Role, isText, notOuter, faultOf, bodyOf, contentOf, spanOf, spanned, elementOf}
 use Rattle.element.proofs.Steps.{fault-none, element-span, element-fault, body-ends}
-use Rattle.walk.specs.Short.{Says}
-use Rattle.walk.specs.Turn.{roleOf}
+use Rattle.walk.specs.{code.Short.Announces, code.Turn.roleOf}
 
 -- the tests of an element, in their order
 module _ (s : List ℕ) (left : ℕ) (key : Bool) (at count : ℕ) where
@@ -80,7 +74,7 @@ length-fits h x w m l =
     record { fits = omega arith }
 
 -- what stands behind a head
-module _ (s : List ℕ) (at : ℕ) (h : Head) (lt : at < length s) (y : Says (getD s at 0) h) where
+module _ (s : List ℕ) (at : ℕ) (h : Head) (lt : at < length s) (y : Announces (getD s at 0) h) where
   pub span-cut : length s - at - 1 < h .wide → Cut ≡ spanOf s at
   unfolding spanOf
   span-cut g = rw (← y .is) (simp (lt-leb (at + 1 + h .wide) (length s) (omega arith)))

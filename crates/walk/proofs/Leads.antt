@@ -9,12 +9,10 @@ use borrow.Author.Tests.{ne-eqb}
 use Rattle.octets.specs.Choice.{either}
 use Rattle.octets.proofs.Ranges.{all, ranged, is-true, is-false, both-left, both-right}
 use Rattle.element.proofs.Leads.{head-wide, head-more}
-use Rattle.element.specs.declared.Shape.{Shape}
-use Rattle.element.specs.declared.Shape.the-variants.{Never, Plain, Text, Array, Map}
+use Rattle.element.specs.declared.Shape.{Shape, the-variants.Never, the-variants.Plain, the-variants.Text, the-variants.Array, the-variants.Map}
 use Rattle.element.specs.declared.Head.{Head}
-use Rattle.element.specs.Lead.{headOf, leadBytes, rowIn}
-use Rattle.element.specs.Form.{isText, isMap}
-use Rattle.walk.specs.Short.{Says, twoTo}
+use Rattle.element.specs.{Lead.headOf, Lead.leadBytes, Lead.rowIn, Form.isText, Form.isMap}
+use Rattle.walk.specs.code.Short.{Announces, twoTo}
 
 -- 2 to the k
 module _ (k : ℕ) where
@@ -85,70 +83,70 @@ abbrev pub row : Shape → ℕ → ℕ → Head
 row h w m = record { shape = h; wide = w; more = m }
 
 -- the heads of the n lead bytes from lo on, by a formula f
-says-in : (f : ℕ → Head) (lo n : ℕ) → T (all (λ k. sameHead (f k) (headOf k)) lo n) → (b : ℕ) → lo ≤ b → b < lo + n → (r : Head) → r ≡ f b → Says b r
+says-in : (f : ℕ → Head) (lo n : ℕ) → T (all (λ k. sameHead (f k) (headOf k)) lo n) → (b : ℕ) → lo ≤ b → b < lo + n → (r : Head) → r ≡ f b → Announces b r
 says-in f lo n t b g h r e =
     rw (e ∙ same-head (f b) (headOf b) (ranged (λ k. sameHead (f k) (headOf k)) lo n t b g h))
     (record { is = refl; wide = head-wide b; more = head-more b })
 
 -- the answers of the code
 module _ (b : ℕ) (r : Head) where
-  pub says-low : r ≡ row Plain 0 0 → b < 0x80 → Says b r
+  pub says-low : r ≡ row Plain 0 0 → b < 0x80 → Announces b r
   unfolding headOf leadBytes rowIn
   says-low e h = says-in (λ k. row Plain 0 0) 0 0x80 tt b (omega arith) (omega arith) r e
 
-  pub says-high : r ≡ row Plain 0 0 → 0xE0 ≤ b → b < 256 → Says b r
+  pub says-high : r ≡ row Plain 0 0 → 0xE0 ≤ b → b < 256 → Announces b r
   unfolding headOf leadBytes rowIn
   says-high e g h = says-in (λ k. row Plain 0 0) 0xE0 0x20 tt b g (omega arith) r e
 
-  pub says-nil : r ≡ row Plain 0 0 → 0xC0 ≤ b → b < 0xC4 → (b ≡ 0xC1 → ⊥) → Says b r
+  pub says-nil : r ≡ row Plain 0 0 → 0xC0 ≤ b → b < 0xC4 → (b ≡ 0xC1 → ⊥) → Announces b r
   unfolding headOf leadBytes rowIn
   says-nil e g h n =
       says-in (λ k. row (either (eqb k 0xC1) (λ _. Never) (λ _. Plain)) 0 0) 0xC0 4 tt b g (omega arith) r (e ∙ simp (ne-eqb b 0xC1 n))
 
 module _ (b : ℕ) where
-  pub says-fixmap : 0x80 ≤ b → b < 0x90 → Says b (row Map 0 (b - 0x80))
+  pub says-fixmap : 0x80 ≤ b → b < 0x90 → Announces b (row Map 0 (b - 0x80))
   unfolding headOf leadBytes rowIn
   says-fixmap g h = says-in (λ k. row Map 0 (k - 0x80)) 0x80 0x10 tt b g (omega arith) _ refl
 
-  pub says-fixarray : 0x90 ≤ b → b < 0xA0 → Says b (row Array 0 (b - 0x90))
+  pub says-fixarray : 0x90 ≤ b → b < 0xA0 → Announces b (row Array 0 (b - 0x90))
   unfolding headOf leadBytes rowIn
   says-fixarray g h = says-in (λ k. row Array 0 (k - 0x90)) 0x90 0x10 tt b g (omega arith) _ refl
 
-  pub says-fixtext : 0xA0 ≤ b → b < 0xC0 → Says b (row Text 0 (b - 0xA0))
+  pub says-fixtext : 0xA0 ≤ b → b < 0xC0 → Announces b (row Text 0 (b - 0xA0))
   unfolding headOf leadBytes rowIn
   says-fixtext g h = says-in (λ k. row Text 0 (k - 0xA0)) 0xA0 0x20 tt b g (omega arith) _ refl
 
-  pub says-never : b ≡ 0xC1 → Says b (row Never 0 0)
+  pub says-never : b ≡ 0xC1 → Announces b (row Never 0 0)
   unfolding headOf leadBytes rowIn
   says-never e = says-in (λ k. row Never 0 0) 0xC1 1 tt b (omega arith) (omega arith) _ refl
 
 module _ (b t : ℕ) (r : Head) where
-  pub says-bin : r ≡ row Plain t 0 → t ≡ twoTo (b - 0xC4) → 0xC4 ≤ b → b < 0xC7 → Says b r
+  pub says-bin : r ≡ row Plain t 0 → t ≡ twoTo (b - 0xC4) → 0xC4 ≤ b → b < 0xC7 → Announces b r
   unfolding headOf leadBytes rowIn
   says-bin e u g h = says-in (λ k. row Plain (twoTo (k - 0xC4)) 0) 0xC4 3 tt b g (omega arith) r (rw u at e)
 
-  pub says-ext : r ≡ row Plain t 1 → t ≡ twoTo (b - 0xC7) → 0xC7 ≤ b → b < 0xCA → Says b r
+  pub says-ext : r ≡ row Plain t 1 → t ≡ twoTo (b - 0xC7) → 0xC7 ≤ b → b < 0xCA → Announces b r
   unfolding headOf leadBytes rowIn
   says-ext e u g h = says-in (λ k. row Plain (twoTo (k - 0xC7)) 1) 0xC7 3 tt b g (omega arith) r (rw u at e)
 
-  pub says-number : r ≡ row Plain 0 t → t ≡ twoTo (b % 4) → 0xCA ≤ b → b < 0xD4 → Says b r
+  pub says-number : r ≡ row Plain 0 t → t ≡ twoTo (b % 4) → 0xCA ≤ b → b < 0xD4 → Announces b r
   unfolding headOf leadBytes rowIn
   says-number e u g h = says-in (λ k. row Plain 0 (twoTo (k % 4))) 0xCA 10 tt b g (omega arith) r (rw u at e)
 
-  pub says-fixext : r ≡ row Plain 0 (1 + t) → t ≡ twoTo (b - 0xD4) → 0xD4 ≤ b → b < 0xD9 → Says b r
+  pub says-fixext : r ≡ row Plain 0 (1 + t) → t ≡ twoTo (b - 0xD4) → 0xD4 ≤ b → b < 0xD9 → Announces b r
   unfolding headOf leadBytes rowIn
   says-fixext e u g h = says-in (λ k. row Plain 0 (1 + twoTo (k - 0xD4))) 0xD4 5 tt b g (omega arith) r (rw u at e)
 
 module _ (b t : ℕ) where
-  pub says-text : t ≡ twoTo (b - 0xD9) → 0xD9 ≤ b → b < 0xDC → Says b (row Text t 0)
+  pub says-text : t ≡ twoTo (b - 0xD9) → 0xD9 ≤ b → b < 0xDC → Announces b (row Text t 0)
   unfolding headOf leadBytes rowIn
   says-text u g h = says-in (λ k. row Text (twoTo (k - 0xD9)) 0) 0xD9 3 tt b g (omega arith) _ (rw u)
 
-  pub says-array : t ≡ twoTo (b - 0xDB) → 0xDC ≤ b → b < 0xDE → Says b (row Array t 0)
+  pub says-array : t ≡ twoTo (b - 0xDB) → 0xDC ≤ b → b < 0xDE → Announces b (row Array t 0)
   unfolding headOf leadBytes rowIn
   says-array u g h = says-in (λ k. row Array (twoTo (k - 0xDB)) 0) 0xDC 2 tt b g (omega arith) _ (rw u)
 
-  pub says-map : t ≡ twoTo (b - 0xDD) → 0xDE ≤ b → b < 0xE0 → Says b (row Map t 0)
+  pub says-map : t ≡ twoTo (b - 0xDD) → 0xDE ≤ b → b < 0xE0 → Announces b (row Map t 0)
   unfolding headOf leadBytes rowIn
   says-map u g h = says-in (λ k. row Map (twoTo (k - 0xDD)) 0) 0xDE 2 tt b g (omega arith) _ (rw u)
 

@@ -5,4 +5,3 @@ pub mod Elements
 pub mod Turns
 pub mod Runs
 pub mod Outermost
-pub mod Settled

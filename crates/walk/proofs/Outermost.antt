@@ -6,19 +6,17 @@ use mathlib.Core.List.{List}
 use Prim.Native.Nat.{ℕ, _+_, _-_, _≤_, _<_}
 use native.Mathlib.Nat.{add-zero}
 use native.Mathlib.Omega.{arith}
-use lib.Dec.{lit<}
-use lib.ListN.{length, getD}
-use borrow.Author.Tests.{lt-ltb, le-ltb, le-leb, lt-leb, eq-eqb, ne-eqb}
-use Rattle.octets.specs.Number.{bigAt}
+use lib.{Dec.lit<, ListN.length, ListN.getD}
+use borrow.Author.Tests.{lt-ltb, le-ltb, le-leb, lt-leb, eq-eqb, ne-eqb, not-true, not-false}
+use Rattle.octets.specs.{Number.bigAt, Size.isSize}
+use Rattle.octets.proofs.Sizes.{sized-some}
 use Rattle.element.specs.declared.Span.the-variants.{Holds}
-use Rattle.element.specs.declared.Step.{Step}
-use Rattle.element.specs.declared.Step.the-variants.{Next, Broken}
+use Rattle.element.specs.declared.Step.{Step, the-variants.Next, the-variants.Broken}
 use Rattle.element.specs.declared.Walked.the-variants.{Whole, Refused}
-use Rattle.element.specs.Lead.{headOf}
-use Rattle.element.specs.Form.{Role, isMap, faultOf, spanOf, elementOf, itemsOf, walkOf}
+use Rattle.element.specs.{Lead.headOf, code.Items.itemsOf}
+use Rattle.element.specs.Form.{Role, isMap, faultOf, spanOf, elementOf, walkOf}
 use Rattle.element.proofs.Steps.{Suits, none-fault, element-span, element-fault, suits-value}
-use Rattle.walk.proofs.Leads.{says-fixmap, map-fix}
-use Rattle.walk.proofs.Elements.{element-holds}
+use Rattle.walk.proofs.{Leads.says-fixmap, Leads.map-fix, Elements.element-holds}
 
 module _ (s : List ℕ) (h : 0 < length s) where
   pub outer-never : getD s 0 0 ≡ 0xC1 → Broken 5 0 ≡ elementOf s 8 Role.outer 0 0
@@ -53,26 +51,26 @@ pub ruleset outers = (outer-never, outer-other, outer-map, outer-fixmap)
 
 -- the payload
 module _ (s : List ℕ) where
-  pub walk-empty : length s ≡ 0 → Refused 3 0 ≡ walkOf s
-  unfolding walkOf
-  walk-empty h = simp (eq-eqb _ _ h)
-
-  module _ (a : length s ≡ 0 → ⊥) where
-    pub walk-long : 4096 < length s → Refused 3 0 ≡ walkOf s
+  module _ (b : Bool) (e : b ≡ isSize (length s)) where
+    pub walk-missized : not b ≡ true → Refused 3 0 ≡ walkOf s
     unfolding walkOf
-    walk-long h = simp (ne-eqb _ _ a, lt-ltb _ _ h)
+    walk-missized f = simp (← e, not-true b f)
 
-    module _ (b : length s ≤ 4096) (r : Step) (q : r ≡ elementOf s 8 Role.outer 0 0) where
-      pub walk-broken : (x y : ℕ) → r ≡ Broken x y → Refused x y ≡ walkOf s
-      unfolding walkOf
-      walk-broken x y n = simp (ne-eqb _ _ a, le-ltb _ _ b, ← q, n)
+    module _ (f : not b ≡ false) where
+      pub walk-some : 0 < length s
+      walk-some = sized-some (length s) (sym e ∙ not-false b f)
 
-      pub walk-left : (x y : ℕ) → r ≡ Next x y → x < length s → Refused 10 x ≡ walkOf s
-      unfolding walkOf
-      walk-left x y n l = simp (ne-eqb _ _ a, le-ltb _ _ b, ← q, n, lt-ltb _ _ l)
+      module _ (r : Step) (q : r ≡ elementOf s 8 Role.outer 0 0) where
+        pub walk-broken : (x y : ℕ) → r ≡ Broken x y → Refused x y ≡ walkOf s
+        unfolding walkOf
+        walk-broken x y n = simp (← e, not-false b f, ← q, n)
 
-      pub walk-whole : (x y : ℕ) → r ≡ Next x y → length s ≤ x → Whole y ≡ walkOf s
-      unfolding walkOf
-      walk-whole x y n l = simp (ne-eqb _ _ a, le-ltb _ _ b, ← q, n, le-ltb _ _ l)
+        pub walk-left : (x y : ℕ) → r ≡ Next x y → x < length s → Refused 10 x ≡ walkOf s
+        unfolding walkOf
+        walk-left x y n l = simp (← e, not-false b f, ← q, n, lt-ltb _ _ l)
 
-pub ruleset walks = (walk-empty, walk-long, walk-broken, walk-left, walk-whole)
+        pub walk-whole : (x y : ℕ) → r ≡ Next x y → length s ≤ x → Whole y ≡ walkOf s
+        unfolding walkOf
+        walk-whole x y n l = simp (← e, not-false b f, ← q, n, le-ltb _ _ l)
+
+pub ruleset walks = (walk-missized, walk-some, walk-broken, walk-left, walk-whole)

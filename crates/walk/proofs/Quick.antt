@@ -10,20 +10,17 @@ use lib.ListN.{length, getD}
 use mir.Syntax.{w8}
 use mir.Val.{Fits}
 use borrow.Author.Tests.{lt-ltb, le-ltb, le-leb, lt-leb, eq-eqb, ne-eqb, eqb-true, eqb-false, leb-true}
-use Rattle.octets.specs.Choice.{either}
-use Rattle.octets.specs.Number.{bigAt}
+use Rattle.octets.specs.{Choice.either, Number.bigAt}
 use Rattle.octets.proofs.Ranges.{ranged, true-false}
-use Rattle.element.specs.declared.Shape.{Shape}
-use Rattle.element.specs.declared.Shape.the-variants.{Never, Plain, Text, Array, Map}
+use Rattle.element.specs.declared.Shape.{Shape, the-variants.Never, the-variants.Plain, the-variants.Text, the-variants.Array, the-variants.Map}
 use Rattle.element.specs.declared.Head.{Head}
-use Rattle.element.specs.declared.Span.{Span}
-use Rattle.element.specs.declared.Span.the-variants.{Ends, Holds}
+use Rattle.element.specs.declared.Span.{Span, the-variants.Ends, the-variants.Holds}
 use Rattle.element.specs.declared.Step.the-variants.{Next}
-use Rattle.element.specs.Lead.{headOf, leadBytes, rowIn}
-use Rattle.element.specs.Form.{Role, isText, faultOf, bodyOf, spanBy, spanOf, spanned, elementOf, itemsOf}
+use Rattle.element.specs.{Lead.headOf, Lead.leadBytes, Lead.rowIn, code.Items.itemsOf}
+use Rattle.element.specs.Form.{Role, isText, faultOf, bodyOf, spanBy, spanOf, spanned, elementOf}
 use Rattle.element.proofs.Leads.{head-more}
 use Rattle.element.proofs.Steps.{fault-none, none-fault, element-span, suits-value}
-use Rattle.walk.specs.Short.{twoTo, isNumber, quickBy, quickOf, present, quickAt, quickAfter, Bounded, After}
+use Rattle.walk.specs.code.Short.{twoTo, isNumber, quickBy, quickOf, present, quickAt, quickAfter, Bounded, After}
 use Rattle.walk.proofs.Leads.{row, text-fix}
 use Rattle.walk.proofs.Sizes.{size-low, size-text, size-byte, size-number, size-never}
 

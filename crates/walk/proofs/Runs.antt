@@ -9,15 +9,11 @@ use lib.ListN.{length, getD}
 use mir.Syntax.{w64}
 use mir.Val.{Fits}
 use borrow.Author.Tests.{le-leb, lt-leb}
-use Rattle.octets.specs.Number.{isThere}
-use Rattle.octets.specs.Low.{areLow}
-use Rattle.octets.proofs.Lows.{low-there, low-each}
-use Rattle.octets.proofs.Ranges.{true-is, both-left, both-right}
-use Rattle.octets.proofs.Reading.{inside}
-use Rattle.element.specs.Form.{Role, elementOf, itemsOf}
-use Rattle.walk.specs.Run.{eightMore, Follows, Passes, Ran}
-use Rattle.walk.proofs.Quick.{value-one, value-two}
-use Rattle.walk.proofs.Turns.{value-quick, items-next}
+use Rattle.octets.specs.{Number.isThere, code.Low.areLow}
+use Rattle.octets.proofs.{Lows.low-there, Lows.low-each, Ranges.true-is, Ranges.both-left, Ranges.both-right, Reading.inside}
+use Rattle.element.specs.{Form.Role, Form.elementOf, code.Items.itemsOf}
+use Rattle.walk.specs.code.Run.{eightMore, Follows, Passes, Ran}
+use Rattle.walk.proofs.{Quick.value-one, Quick.value-two, Turns.value-quick, Turns.items-next}
 
 -- the test for eight parts more
 module _ (s : List ℕ) (at n : ℕ) where

@@ -9,7 +9,7 @@ use borrow.Author.Tests.{lt-ltb, le-ltb, eq-eqb, ne-eqb, ltb-true, ltb-false, eq
 use Rattle.octets.specs.Choice.{either}
 use Rattle.octets.proofs.Ranges.{all, ranged, true-false}
 use Rattle.element.specs.Lead.{headOf, leadBytes, rowIn}
-use Rattle.walk.specs.Short.{twoTo, isNumber, quickOf, isShort}
+use Rattle.walk.specs.code.Short.{twoTo, isNumber, quickOf, isShort}
 
 -- the lead bytes of numbers
 module _ (b : ℕ) where

@@ -1,19 +1,18 @@
 -- Values, pairs and the loops over them, by what the lead bytes tell: each turn takes the answer from here to the answer from behind the item.
 -- The sums fit because something told of is there, counted, and has a level. Assumes nothing.
 use mathlib.Core.Path.{_≡_, refl, sym, ap, _∙_}
-use mathlib.Core.Bool.{Bool, true, false}
-use mathlib.Core.List.{List}
+use mathlib.Core.{Bool.Bool, Bool.true, Bool.false, List.List}
 use Prim.Native.Nat.{ℕ, _+_, _-_, _*_, _^_, _≤_, _<_}
 use native.Mathlib.Omega.{arith}
 use lib.ListN.{length}
 use mir.Syntax.{w64}
 use mir.Val.{Fits}
-use Rattle.element.specs.declared.Step.{Step}
-use Rattle.element.specs.declared.Step.the-variants.{Next, Broken}
-use Rattle.element.specs.Form.{Role, times, itemBy, elementOf, itemsOf}
+use Rattle.element.specs.declared.Step.{Step, the-variants.Next, the-variants.Broken}
+use Rattle.element.specs.Form.{Role, times, itemBy, elementOf}
+use Rattle.element.specs.code.Items.{itemsOf}
 use Rattle.element.proofs.Steps.{times-more}
-use Rattle.walk.specs.Short.{quickAt, quickAfter, isShort, Bounded, After, Opens}
-use Rattle.walk.specs.Turn.{pairOf}
+use Rattle.walk.specs.code.Short.{quickAt, quickAfter, isShort, Bounded, After, Opens}
+use Rattle.walk.specs.code.Turn.{pairOf}
 use Rattle.walk.proofs.Sizes.{is-some, is-small, is-long, tested}
 use Rattle.walk.proofs.Quick.{base, Opened, quick-short, quick-holds, after-is}
 

@@ -1,3 +1,1 @@
-pub mod Short
-pub mod Turn
-pub mod Run
+pub mod code

@@ -3,13 +3,12 @@ use element::Head;
 use element::Shape;
 ghost use mathlib.Core.Path.{_≡_};
 ghost use Prim.Native.Nat.{_≤_, _<_};
-ghost use Rattle.element.specs.Lead.{headOf};
-ghost use Rattle.element.specs.Form.{isText, isMap};
-ghost use Rattle.walk.specs.Short.{Says, twoTo};
+ghost use Rattle.element.specs.{Lead.headOf, Form.isText, Form.isMap};
+ghost use Rattle.walk.specs.code.Short.{Announces, twoTo};
 
 // The shape, the bytes of length and what is added to that length.
 pub fn head_of(b: u8) -> Head
-    ensures { λ r. ⌜ Says b r ⌝ }
+    ensures { λ r. ⌜ Announces b r ⌝ }
 {
     if b < 0x80 {
         return plain(0, 0);
@@ -77,7 +76,7 @@ pub fn two_to(k: u8) -> usize
 // The lead bytes C0 to D8: nil, false and true, bin, ext, floats, integers.
 fn mark_of(b: u8) -> Head
     requires { ⌜ (0xC0 ≤ b) × (b < 0xD9) ⌝ }
-    ensures { λ r. ⌜ Says b r ⌝ }
+    ensures { λ r. ⌜ Announces b r ⌝ }
 {
     if b == 0xC1 {
         return Head {
@@ -104,7 +103,7 @@ fn mark_of(b: u8) -> Head
 // The lead bytes D9 to DF: texts, arrays and maps with bytes of length.
 fn long_of(b: u8) -> Head
     requires { ⌜ (0xD9 ≤ b) × (b < 0xE0) ⌝ }
-    ensures { λ r. ⌜ Says b r ⌝ }
+    ensures { λ r. ⌜ Announces b r ⌝ }
 {
     if b < 0xDC {
         return Head {

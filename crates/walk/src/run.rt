@@ -1,8 +1,9 @@
 // The parts of an array that are a byte below 0x80, or a byte behind CC: each is an element of its own. Most arrays
 // hold bytes, so that all or nearly all of their parts are such.
+use crate::MOST_ELEMENTS;
 ghost use mathlib.Core.Path.{_≡_};
 ghost use Prim.Native.Nat.{_-_, _*_, _≤_};
-ghost use Rattle.walk.specs.Run.{eightMore, Follows, Passes, Ran};
+ghost use Rattle.walk.specs.code.Run.{eightMore, Follows, Passes, Ran};
 
 // The place behind such parts, and how many they are.
 pub struct Passed {
@@ -42,10 +43,11 @@ fn countable(count: usize, left: usize, n: usize) -> usize
     if left == 0 {
         return 0;
     }
-    if 1024 <= count {
+    if MOST_ELEMENTS <= count {
         return 0;
     }
-    if 1024 - count < n { 1024 - count } else { n }
+    let rest = MOST_ELEMENTS - count;
+    if rest < n { rest } else { n }
 }
 
 // Such parts among n: by eights, then one by one.

@@ -1,14 +1,22 @@
 // What the loops do by a lead byte alone; 0 means that `steps::element` is to look, and to judge.
+use crate::MOST_ELEMENTS;
 use crate::lead::two_to;
 ghost use mathlib.Core.Path.{_≡_};
 ghost use Prim.Native.Nat.{_+_, _-_, _*_, _≤_, _<_};
-ghost use lib.Dec.{leb};
-ghost use lib.ListN.{length};
+ghost use lib.{Dec.leb, ListN.length};
 ghost use Rattle.octets.specs.Choice.{either};
 ghost use Rattle.element.specs.Form.{Role};
-ghost use Rattle.walk.specs.Short.{isNumber, isShort, present, quickOf, quickAt, Bounded};
+ghost use Rattle.walk.specs.code.Short.{isNumber, isShort, present, quickOf, quickAt, Bounded};
 
-// The value at a place: its bytes, or 64 and a map's pairs, or 128 and an array's parts, from the lead byte.
+// What a lead byte tells of a map is this and its pairs, of an array that and its parts; less is an element's bytes.
+pub const MAP: usize = 64;
+
+pub const ARRAY: usize = 128;
+
+// A key comes after fewer elements than this, so that its value may be counted too.
+const MOST_BEFORE_KEY: usize = 1023;
+
+// What the lead byte tells of the value at a place.
 pub fn quick_value(s: &[u8], at: usize, count: usize, left: usize) -> usize
     ensures is { λ r. ⌜ r ≡ quickAt (now (s .entry)) left Role.value at count ⌝ }
     ensures bounds { λ r. ⌜ Bounded (length (now (s .entry))) left at count r ⌝ }
@@ -16,7 +24,7 @@ pub fn quick_value(s: &[u8], at: usize, count: usize, left: usize) -> usize
     if s.len() <= at {
         return 0;
     }
-    if 1024 <= count {
+    if MOST_ELEMENTS <= count {
         return 0;
     }
     if left == 0 {
@@ -69,7 +77,7 @@ fn told_any(b: u8, rest: usize) -> usize
     ensures bounds { λ r. ⌜ (r ≤ 160) × (r ≤ rest + 160 * (r - 63)) ⌝ }
 {
     let n = quick_of(b);
-    if 64 <= n {
+    if MAP <= n {
         return n;
     }
     within(n, rest)
@@ -92,7 +100,7 @@ pub fn quick_key(s: &[u8], at: usize, count: usize, left: usize) -> usize
     if s.len() <= at {
         return 0;
     }
-    if 1023 <= count {
+    if MOST_BEFORE_KEY <= count {
         return 0;
     }
     if left == 0 {
@@ -167,5 +175,5 @@ pub fn is_short(z: usize) -> bool
     if z == 0 {
         return false;
     }
-    if z < 64 { true } else { false }
+    if z < MAP { true } else { false }
 }

@@ -1,21 +1,21 @@
 // The element reader and the container readers, which call each other: the levels left fall at each round,
 // the items left at each turn of a loop.
+use crate::MOST_ELEMENTS;
 use crate::lead::head_of;
 use crate::lead::is_text;
 use crate::run::octet_run;
-use crate::short::is_short;
-use crate::short::quick_key;
-use crate::short::quick_value;
+use crate::short;
 use element::Shape;
 use element::Span;
 use element::Step;
-ghost use mathlib.Core.Path.{_≡_};
-ghost use mathlib.Core.Bool.{true, false};
+use octets::refusals;
+ghost use mathlib.Core.{Path._≡_, Bool.true, Bool.false};
 ghost use Prim.Native.Nat.{_+_, _≤_, _<_};
 ghost use lib.ListN.{length, getD};
-ghost use Rattle.element.specs.Form.{Role, bodyOf, faultOf, spanOf, elementOf, itemsOf};
-ghost use Rattle.walk.specs.Short.{quickAfter, Bounded, After, Opens, Told};
-ghost use Rattle.walk.specs.Turn.{roleOf, pairOf};
+ghost use Rattle.element.specs.Form.{Role, bodyOf, faultOf, spanOf, elementOf};
+ghost use Rattle.element.specs.code.Items.{itemsOf};
+ghost use Rattle.walk.specs.code.Short.{quickAfter, Bounded, After, Opens, QuickPair};
+ghost use Rattle.walk.specs.code.Turn.{roleOf, pairOf};
 
 // The element at a place, after `count` elements, with `left` levels: where the walk goes on, or its break.
 pub fn element(s: &[u8], at: usize, count: usize, left: usize, key: bool) -> Step
@@ -30,7 +30,7 @@ pub fn element(s: &[u8], at: usize, count: usize, left: usize, key: bool) -> Ste
     }
     match span_at(s, at) {
         Span::Cut => Step::Broken {
-            number: 4,
+            number: refusals::CUT,
             place: at,
         },
         Span::Ends(next) => Step::Next {
@@ -51,7 +51,7 @@ pub fn element(s: &[u8], at: usize, count: usize, left: usize, key: bool) -> Ste
 pub fn key(s: &[u8], at: usize, count: usize, left: usize) -> Step
     ensures { λ r. ⌜ r ≡ elementOf (now (s .entry)) left Role.key at count ⌝ }
 {
-    let y = quick_key(s, at, count, left);
+    let y = short::quick_key(s, at, count, left);
     if y == 0 {
         return element(s, at, count, left, true);
     }
@@ -65,8 +65,8 @@ pub fn key(s: &[u8], at: usize, count: usize, left: usize) -> Step
 pub fn value(s: &[u8], at: usize, count: usize, left: usize) -> Step
     ensures { λ r. ⌜ r ≡ elementOf (now (s .entry)) left Role.value at count ⌝ }
 {
-    let z = quick_value(s, at, count, left);
-    if is_short(z) {
+    let z = short::quick_value(s, at, count, left);
+    if short::is_short(z) {
         return Step::Next {
             at: at + z,
             count: count + 1,
@@ -84,8 +84,8 @@ pub fn values(s: &[u8], at: usize, count: usize, left: usize, n: usize) -> Step
     let mut c = count + run.parts;
     let mut k = n - run.parts;
     while 0 < k {
-        let z = quick_value(s, p, c, left);
-        if is_short(z) {
+        let z = short::quick_value(s, p, c, left);
+        if short::is_short(z) {
             p += z;
             c += 1;
             k -= 1;
@@ -113,9 +113,9 @@ pub fn pairs(s: &[u8], at: usize, count: usize, left: usize, n: usize) -> Step
     let mut c = count;
     let mut k = n;
     while 0 < k {
-        let y = quick_key(s, p, c, left);
+        let y = short::quick_key(s, p, c, left);
         let z = quick_after(s, p, c, left, y);
-        if is_short(z) {
+        if short::is_short(z) {
             p = p + y + z;
             c += 2;
             k -= 1;
@@ -137,16 +137,16 @@ pub fn pairs(s: &[u8], at: usize, count: usize, left: usize, n: usize) -> Step
 
 // A key and its value, where the value is not short.
 fn pair(s: &[u8], at: usize, count: usize, left: usize, y: usize, z: usize) -> Step
-    requires { ⌜ Told (now s) left at count y z ⌝ }
+    requires { ⌜ QuickPair (now s) left at count y z ⌝ }
     ensures { λ r. ⌜ r ≡ pairOf (now (s .entry)) left at count ⌝ }
 {
     if z == 0 {
         return any_pair(s, at, count, left);
     }
-    if z < 128 {
-        return pairs(s, at + y + 1, count + 2, left - 1, z - 64);
+    if z < short::ARRAY {
+        return pairs(s, at + y + 1, count + 2, left - 1, z - short::MAP);
     }
-    values(s, at + y + 1, count + 2, left - 1, z - 128)
+    values(s, at + y + 1, count + 2, left - 1, z - short::ARRAY)
 }
 
 // A key and its value, each by the element reader.
@@ -167,10 +167,10 @@ fn held(s: &[u8], at: usize, count: usize, left: usize, z: usize) -> Step
     if z == 0 {
         return element(s, at, count, left, false);
     }
-    if z < 128 {
-        return pairs(s, at + 1, count + 1, left - 1, z - 64);
+    if z < short::ARRAY {
+        return pairs(s, at + 1, count + 1, left - 1, z - short::MAP);
     }
-    values(s, at + 1, count + 1, left - 1, z - 128)
+    values(s, at + 1, count + 1, left - 1, z - short::ARRAY)
 }
 
 // The value behind a key of y bytes; 0 where there is no such key.
@@ -182,7 +182,7 @@ fn quick_after(s: &[u8], at: usize, count: usize, left: usize, y: usize) -> usiz
     if y == 0 {
         return 0;
     }
-    quick_value(s, at + y, count + 1, left)
+    short::quick_value(s, at + y, count + 1, left)
 }
 
 // The first test that the element fails before its length is read, or 0.
@@ -190,20 +190,24 @@ fn fault(s: &[u8], at: usize, count: usize, left: usize, key: bool) -> u8
     ensures { λ r. ⌜ r ≡ faultOf (now (s .entry)) left (roleOf key) at count ⌝ }
 {
     if s.len() <= at {
-        return 4;
+        return refusals::CUT;
     }
     let b = s[at];
     if b == 0xC1 {
-        return 5;
+        return refusals::NEVER_USED;
     }
-    if 1024 <= count {
-        return 7;
+    if MOST_ELEMENTS <= count {
+        return refusals::TOO_MANY_ELEMENTS;
     }
     if left == 0 {
-        return 6;
+        return refusals::TOO_DEEP;
     }
     if key {
-        if is_text(b) { 0 } else { 8 }
+        if is_text(b) {
+            0
+        } else {
+            refusals::KEY_NOT_TEXT
+        }
     } else {
         0
     }

@@ -1,6 +1,5 @@
 -- A record's message by the code's tests: by its variant, and by the number of a command that has nothing more. Assumes nothing.
-use mathlib.Core.Path.{_≡_}
-use mathlib.Core.Bool.{true, _&&_}
+use mathlib.Core.{Path._≡_, Bool.true, Bool._&&_}
 use mathlib.Core.List.{List, [], _∷_, _++_}
 use Prim.Native.Nat.{ℕ, _+_, _≤_, _<_}
 use native.Mathlib.Omega.{arith}
@@ -10,17 +9,11 @@ use mir.Syntax.{w64}
 use mir.Val.{toZ, ofZ, SFits}
 use mir.ValLaws.{toZ-ofZ}
 use Rattle.octets.proofs.Ranges.{true-is, both-left, both-right}
-use Rattle.forms.specs.Put.{Put, putParts, mapParts, wholeParts}
+use Rattle.forms.specs.code.Put.{Put, putParts, mapParts, wholeParts}
 use Rattle.names.specs.Names.{commands, nameAt}
 use Rattle.record.specs.Says.{isNamed}
-use Rattle.record.specs.declared.Con.{Con}
-use Rattle.record.specs.declared.ConRsp.{ConRsp}
-use Rattle.record.specs.declared.StatusRsp.{StatusRsp}
-use Rattle.record.specs.declared.Det.{Det}
-use Rattle.record.specs.declared.AttPrp.{AttPrp}
-use Rattle.record.specs.declared.UlData.{UlData}
-use Rattle.record.specs.declared.Body.{Body}
-use Rattle.writer.specs.Parts.{textOf, text, chained, titleParts, pairsIn, groupsIn, bodyParts}
+use Rattle.record.specs.declared.{Con.Con, ConRsp.ConRsp, StatusRsp.StatusRsp, Det.Det, AttPrp.AttPrp, UlData.UlData, Body.Body}
+use Rattle.writer.specs.code.Parts.{shortText, text, chained, titleParts, pairsIn, groupsIn, bodyParts}
 
 -- by the variant; the signed opId is handed on in its bits
 module _ (z : ℤ) (f : SFits w64 z) (v : Body) (d : List ℕ) (o a : Put) where
@@ -77,7 +70,7 @@ pub ruleset variants = (of-con, of-con-rsp, of-status-rsp, of-det, of-det-rsp, o
 
 -- by the number
 pub bare-put : (z : ℤ) → SFits w64 z → (c k : ℕ) (o a : Put) → c ≡ k
-    → a ≡ putParts (mapParts 2 ++ ((text "command" ++ (textOf (nameAt commands k) ++ text "opId")) ∷ wholeParts (toZ w64 (ofZ w64 z)))) o → a ≡ putParts (bodyParts z (Body.Bare c) []) o
+    → a ≡ putParts (mapParts 2 ++ ((text "command" ++ (shortText (nameAt commands k) ++ text "opId")) ∷ wholeParts (toZ w64 (ofZ w64 z)))) o → a ≡ putParts (bodyParts z (Body.Bare c) []) o
 unfolding bodyParts groupsIn pairsIn titleParts chained
 bare-put z f c k o a e g = rw e (rw (toZ-ofZ w64 z f) at g)
 
@@ -99,7 +92,7 @@ last-bare c h l n =
     omega arith
 
 pub bare-rest : (z : ℤ) → SFits w64 z → (c : ℕ) (o a : Put) → 8 ≤ c → c < 21 → None c
-    → a ≡ putParts (mapParts 2 ++ ((text "command" ++ (textOf (nameAt commands 20) ++ text "opId")) ∷ wholeParts (toZ w64 (ofZ w64 z)))) o → a ≡ putParts (bodyParts z (Body.Bare c) []) o
+    → a ≡ putParts (mapParts 2 ++ ((text "command" ++ (shortText (nameAt commands 20) ++ text "opId")) ∷ wholeParts (toZ w64 (ofZ w64 z)))) o → a ≡ putParts (bodyParts z (Body.Bare c) []) o
 bare-rest z f c o a h l n g = bare-put z f c 20 o a (last-bare c h l n) g
 
 pub ruleset bares = (bare-put, bare-rest)

@@ -1,31 +1,28 @@
 -- What is written for the fields of any list: their parts joined are the bytes of their pairs, as many are counted as are said, and behind a title they
 -- are a payload. By induction over the list. Assumes nothing.
 use mathlib.Core.Path.{_≡_, refl, sym, ap, ap₂, _∙_}
-use mathlib.Core.Bool.{Bool, true, false}
+use mathlib.Core.{Bool.Bool, Bool.true, Bool.false, Option.Option, Option.some, Option.none}
 use mathlib.Core.List.{List, [], _∷_, _++_, append-nil, append-assoc}
-use mathlib.Core.Option.{Option, some, none}
 use Prim.Native.Nat.{ℕ, _+_, _<_}
 use native.Mathlib.Omega.{arith}
-use lib.IntN.{pos}
-use lib.ListN.{length}
+use lib.{IntN.pos, ListN.length}
 use borrow.Author.Tests.{lt-ltb}
 use Rattle.octets.specs.Choice.{either}
-use Rattle.element.specs.Tree.{Pairs, bytesOf, bytesOfAll, bytesOfPairs, partsOf, pairsOf}
-use Rattle.forms.specs.Shortest.{wholeTree, textTree, textHead, mapTree, mapHead, headBytes, arrayHead, arrayTree, octetsTree, numberTrees, versionText}
-use Rattle.forms.specs.Put.{joined, wholeParts, realParts, markParts, textParts, numberParts, octetsParts, positionParts, versionParts}
+use Rattle.element.specs.Tree.{Pairs, bytesOf, bytesOfAll, bytesOfPairs, partCount, pairCount}
+use Rattle.forms.specs.Shortest.{wholeTree, textTree, textHead, mapTree, mapHead, arrayHead, arrayTree, octetsTree, numberTrees, versionText}
+use Rattle.forms.specs.Shortest.{headBytes}
+use Rattle.forms.specs.code.Put.{joined, wholeParts, realParts, markParts, textParts, numberParts, octetsParts, positionParts, versionParts}
 use Rattle.forms.proofs.Putting.{joined-join}
 use Rattle.shortest.proofs.Many.{numbers-parts}
 use Rattle.names.specs.Names.{commands, nameAt}
-use Rattle.field.specs.Kind.{Kind, Value, kinds, kindIn, kindOf}
+use Rattle.field.specs.Kind.{Kind, Value}
 use Rattle.message.specs.Fields.{Field, headed, fieldsOf}
 use Rattle.saying.specs.Says.{partIn}
 use Rattle.saying.specs.Written.{asArray, treeOf, pairBy, pairsFrom}
 use Rattle.saying.proofs.Words.{name-few}
-use Rattle.record.specs.Record.{commandIn}
-use Rattle.record.specs.Says.{rowsOf, saysOf}
-use Rattle.record.specs.Written.{payloadFor}
+use Rattle.record.specs.{Record.commandIn, Says.sayingsOf, Says.saysOf, Written.payloadFor}
 use Rattle.record.specs.declared.Message.{Message}
-use Rattle.writer.specs.Parts.{textOf, text, chained, pairIf, oneIf, titleParts}
+use Rattle.writer.specs.code.Parts.{shortText, text, chained, pairPart, oneIf, titleParts}
 
 -- the parts of a value of a kind
 abbrev pub valueParts : Kind → Value → List (List ℕ)
@@ -51,7 +48,7 @@ unfolding joined bytesOf arrayTree
 octets-bytes d = ap₂ (λ (n : ℕ) (l : List ℕ). headBytes (arrayHead n) ++ l) (sym (numbers-parts d)) (numbers-bytes d)
 
 value-bytes : (k : Kind) (v : Value) → joined (valueParts k v) ≡ bytesOf (treeOf k v)
-unfolding joined treeOf bytesOf arrayTree partsOf
+unfolding joined treeOf bytesOf arrayTree partCount
 value-bytes k Value.nothing = refl
 value-bytes k (Value.number z) = append-nil (bytesOf (wholeTree z))
 value-bytes k (Value.figure x) = append-nil _
@@ -67,7 +64,7 @@ value-bytes k (Value.release a b c) = text-bytes (versionText a b c)
 -- the parts of the fields of a list
 abbrev pub partsBy : Field → Option Value → List (List ℕ)
 partsBy f none = []
-partsBy f (some v) = bytesOf (textTree (f .key)) ∷ valueParts (kindOf (f .kind)) v
+partsBy f (some v) = bytesOf (textTree (f .key)) ∷ valueParts (f .kind) v
 
 unfoldable pub partsFrom : List Field → (List ℕ → Option Value) → List (List ℕ)
 partsFrom [] says = []
@@ -76,7 +73,7 @@ partsFrom (f ∷ l) says = partsBy f (says (f .key)) ++ partsFrom l says
 field-bytes : (f : Field) (o : Option Value) (ps : Pairs) → joined (partsBy f o) ++ bytesOfPairs ps ≡ bytesOfPairs (pairBy f o ps)
 unfolding joined bytesOf
 field-bytes f none ps = refl
-field-bytes f (some v) ps = ap (λ (l : List ℕ). (bytesOf (textTree (f .key)) ++ l) ++ bytesOfPairs ps) (value-bytes (kindOf (f .kind)) v)
+field-bytes f (some v) ps = ap (λ (l : List ℕ). (bytesOf (textTree (f .key)) ++ l) ++ bytesOfPairs ps) (value-bytes (f .kind) v)
 
 fields-bytes : (l : List Field) (says : List ℕ → Option Value) → joined (partsFrom l says) ≡ bytesOfPairs (pairsFrom l says)
 unfolding joined partsFrom pairsFrom bytesOf
@@ -87,13 +84,13 @@ fields-bytes (f ∷ l) says =
     ∙ field-bytes f (says (f .key)) (pairsFrom l says)
 
 -- a field that is there or not, and one that always is
-pub maybe-is : (f : Field) (h : Bool) (v : Value) → partsBy f (either h (λ _. some v) (λ _. none)) ≡ pairIf h (bytesOf (textTree (f .key))) (valueParts (kindOf (f .kind)) v)
-unfolding pairIf
+pub maybe-is : (f : Field) (h : Bool) (v : Value) → partsBy f (either h (λ _. some v) (λ _. none)) ≡ pairPart h (bytesOf (textTree (f .key))) (valueParts (f .kind) v)
+unfolding pairPart
 maybe-is f true v = refl
 maybe-is f false v = refl
 
-pub always-is : (key : List ℕ) (ps : List (List ℕ)) → pairIf true key ps ≡ key ∷ ps
-unfolding pairIf
+pub always-is : (key : List ℕ) (ps : List (List ℕ)) → pairPart true key ps ≡ key ∷ ps
+unfolding pairPart
 always-is key ps = refl
 
 -- how many pairs are written: as many fields as are said
@@ -105,12 +102,12 @@ abbrev pub counts : List Field → (List ℕ → Option Value) → ℕ
 counts [] says = 0
 counts (f ∷ l) says = oneOf (says (f .key)) + counts l says
 
-pub counted : (l : List Field) (says : List ℕ → Option Value) → pairsOf (pairsFrom l says) ≡ counts l says
-unfolding pairsFrom pairsOf
+pub counted : (l : List Field) (says : List ℕ → Option Value) → pairCount (pairsFrom l says) ≡ counts l says
+unfolding pairsFrom pairCount
 counted [] says = refl
 counted (f ∷ l) says = go (says (f .key)) (counted l says)
   where
-    go : (o : Option Value) → pairsOf (pairsFrom l says) ≡ counts l says → pairsOf (pairBy f o (pairsFrom l says)) ≡ oneOf o + counts l says
+    go : (o : Option Value) → pairCount (pairsFrom l says) ≡ counts l says → pairCount (pairBy f o (pairsFrom l says)) ≡ oneOf o + counts l says
     go none e = omega (arith, e)
     go (some v) e = omega (arith, e)
 
@@ -119,7 +116,7 @@ one-of true v = refl
 one-of false v = refl
 
 -- a text of fewer than 32 bytes has its length in its lead byte
-text-is : (d : List ℕ) → length d < 32 → textOf d ≡ bytesOf (textTree d)
+text-is : (d : List ℕ) → length d < 32 → shortText d ≡ bytesOf (textTree d)
 unfolding textTree textHead bytesOf
 text-is d h = rw (lt-ltb (length d) 32 h)
 
@@ -128,20 +125,20 @@ regroup : (k t i z r : List ℕ) → (k ++ (t ++ i)) ++ (z ++ r) ≡ (k ++ t) ++
 regroup k t i z r = simp append-assoc
 
 module _ (m : Message) (d : List ℕ) (l : List Field) (pss : List (List (List ℕ))) (n : ℕ) where
-  pub payload-by : fieldsOf (commandIn (m .body)) ≡ headed l → n ≡ pairsOf (pairsFrom (headed l) (saysOf m d)) → chained pss ≡ partsFrom l (saysOf m d)
+  pub payload-by : fieldsOf (commandIn (m .body)) ≡ headed l → n ≡ pairCount (pairsFrom (headed l) (saysOf m d)) → chained pss ≡ partsFrom l (saysOf m d)
       → joined (chained (titleParts n (nameAt commands (commandIn (m .body))) (m .«op_id») ∷ pss)) ≡ payloadFor m d
-  unfolding payloadFor mapTree bytesOf textTree textHead treeOf pairsFrom rowsOf partIn kinds kindIn chained titleParts joined
+  unfolding payloadFor mapTree bytesOf textTree textHead treeOf pairsFrom sayingsOf partIn chained titleParts joined
   payload-by e c f =
       let says = saysOf m d in
       let name = nameAt commands (commandIn (m .body)) in
       let k = text "command" in
-      let t = textOf name in
+      let t = shortText name in
       let i = text "opId" in
       let z = bytesOf (wholeTree (m .«op_id»)) in
       let r = bytesOfPairs (pairsFrom l says) in
       let few = name-few (commandIn (m .body)) in
       ap (λ (x : List ℕ). headBytes (mapHead n) ++ ((k ++ (t ++ i)) ++ (z ++ x))) (ap joined f ∙ fields-bytes l says)
       ∙ ap (λ (j : ℕ). headBytes (mapHead j) ++ ((k ++ (t ++ i)) ++ (z ++ r))) c
-      ∙ ap (λ (x : List ℕ). headBytes (mapHead (pairsOf (pairsFrom (headed l) says))) ++ x)
+      ∙ ap (λ (x : List ℕ). headBytes (mapHead (pairCount (pairsFrom (headed l) says))) ++ x)
       (regroup k t i z r ∙ ap (λ (x : List ℕ). (k ++ x) ++ ((i ++ z) ++ r)) (text-is name (omega arith)))
       ∙ ap (λ (q : List Field). bytesOf (mapTree (pairsFrom q says))) (sym e)

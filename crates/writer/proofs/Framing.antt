@@ -8,24 +8,19 @@ use native.Mathlib.Omega.{arith}
 use lib.ListN.{length, take, drop, replicate, length-append, length-replicate}
 use lib.Seq.{length-take-le}
 use borrow.Author.Tests.{eq-eqb, ne-eqb, le-leb, lt-leb}
-use Rattle.octets.specs.Bytes.{bigBytes, littleBytes, putAt, putNumber}
-use Rattle.octets.proofs.Digits.{length-big, length-little}
-use Rattle.octets.proofs.Ranges.{is-true}
-use Rattle.octets.proofs.Stores.{put-number}
+use Rattle.octets.specs.{Bytes.bigBytes, Bytes.littleBytes, Bytes.putAt, code.Put.putNumber}
+use Rattle.octets.proofs.{Digits.length-big, Digits.length-little, Ranges.is-true, Stores.put-number}
 use Rattle.octets.proofs.Writing.{put-in, put-then, put-stands, length-put, put-upto}
 use Rattle.frame.specs.Frame.{identifier}
-use Rattle.forms.specs.Put.{Put, put, putParts, joined}
+use Rattle.forms.specs.code.Put.{Put, put, putParts, joined}
 use Rattle.forms.proofs.Putting.{fits-parts, part-in}
 use Rattle.saying.specs.Written.{frameOf}
-use Rattle.record.specs.Fits.{faultIn, fits}
-use Rattle.record.specs.Says.{isNamed}
-use Rattle.record.specs.Written.{payloadFor, frameFor}
+use Rattle.record.specs.{Fits.faultIn, Fits.fits, Says.isNamed, Written.payloadFor, Written.frameFor}
 use Rattle.record.specs.declared.Message.{Message}
 use Rattle.record.proofs.Payloads.{payload-short}
-use Rattle.writer.specs.Parts.{bodyParts, withHead}
+use Rattle.writer.specs.code.Parts.{bodyParts, withHead}
 use Rattle.writer.specs.Write.{Sent, sent, framed, written}
-use Rattle.writer.specs.declared.Written.{Written}
-use Rattle.writer.specs.declared.Written.the-variants.{Whole, Refused}
+use Rattle.writer.specs.declared.Written.{Written, the-variants.Whole, the-variants.Refused}
 use Rattle.writer.proofs.Payloads.{payload-bytes, fits-named}
 
 -- what is put in front of bytes that stand there
@@ -84,11 +79,11 @@ module _ (made room : List ℕ) where
   unfolding putParts
   delivered after r h e = framed-whole after (length made) refl h (ap (λ (o : Put). o .room) (e ∙ part-in room 0 made (omega arith)))
 
-  pub no-place : length room < length made → sent (Refused 20) room ≡ framed made room
+  pub too-short : length room < length made → sent (Refused 20) room ≡ framed made room
   unfolding framed
-  no-place h = rw (lt-leb (length made) (length room) h)
+  too-short h = rw (lt-leb (length made) (length room) h)
 
-pub ruleset deliveries = (delivered, no-place)
+pub ruleset deliveries = (delivered, too-short)
 
 pub enough : 1012 ≤ length (replicate {A = ℕ} 1012 0)
 enough = rw length-replicate (omega arith)
@@ -136,8 +131,8 @@ module _ (m : Message) (d : List ℕ) (f : true ≡ fits m d) where
           ap₂ (λ (i : ℕ) (s : List ℕ). take i s) k (frame-put made g)
           ∙ put-upto old 0 (frameFor m d) (omega (arith, long, size, short))
 
-      pub put-made : (place after : List ℕ) (r : Written) → sent r after ≡ framed (take n made) place → sent r after ≡ framed (frameFor m d) place
-      put-made place after r e = rw made-there at e
+      pub put-made : (room after : List ℕ) (r : Written) → sent r after ≡ framed (take n made) room → sent r after ≡ framed (frameFor m d) room
+      put-made room after r e = rw made-there at e
 
 -- the test before it
 module _ (m : Message) (d : List ℕ) (r : ℕ) (e : r ≡ faultIn m d) where

@@ -3,4 +3,4 @@ pub mod Bodies
 pub mod Fields
 pub mod Payloads
 pub mod Framing
-pub mod Settled
+pub mod Kept

@@ -1,50 +1,25 @@
 -- What is written part by part is the record's payload: each variant's parts are those of its command's fields, in the list's order, and as many as
 -- are counted. By the laws over any list of fields, and one unfolding a variant. Assumes nothing.
 use mathlib.Core.Path.{_≡_, refl, ap, subst, _∙_}
-use mathlib.Core.Bool.{true}
-use mathlib.Core.List.{List, [], append-assoc}
-use mathlib.Core.Option.{Option}
+use mathlib.Core.{Bool.true, List.List, List.[], List.append-assoc, Option.Option}
 use Prim.Native.Nat.{ℕ}
 use native.Mathlib.Omega.{arith}
-use lib.Dec.{T}
-use lib.IntN.{ℤ}
-use lib.ListN.{drop}
+use lib.{Dec.T, IntN.ℤ, ListN.drop}
 use Rattle.octets.proofs.Ranges.{both-left}
-use Rattle.element.specs.Tree.{bytesOf, pairsOf}
-use Rattle.forms.specs.Shortest.{textTree, textHead}
-use Rattle.forms.specs.Put.{joined}
+use Rattle.element.specs.Tree.{bytesOf, pairCount}
+use Rattle.forms.specs.{Shortest.textTree, Shortest.textHead, code.Put.joined}
 use Rattle.names.specs.Names.{bytes}
-use Rattle.field.specs.Kind.{Value, kinds, kindIn}
-use Rattle.message.specs.Fields.{Field, need, word, headed, lists, listIn, fieldsOf}
-use Rattle.saying.specs.Says.{partIn}
-use Rattle.saying.specs.Fits.{saidFits}
-use Rattle.saying.specs.Written.{pairsFrom}
+use Rattle.field.specs.Kind.{Kind, Value}
+use Rattle.message.specs.Fields.{Field, need, headed, lists, listIn, fieldsOf}
+use Rattle.saying.specs.{Says.partIn, Fits.saidFits, Written.pairsFrom}
 use Rattle.saying.proofs.Shown.{AllFit}
-use Rattle.record.specs.Record.{commandIn}
-use Rattle.record.specs.Says.{isNamed, bodyRows, rowsOf, saysOf}
-use Rattle.record.specs.Fits.{fits}
-use Rattle.record.specs.Written.{payloadFor}
-use Rattle.record.specs.declared.Body.{Body}
-use Rattle.record.specs.declared.Message.{Message}
-use Rattle.record.proofs.Faultless.{each-fits}
-use Rattle.record.proofs.Commands.{Past, Command, command, bare-past}
-use Rattle.record.proofs.Commands.Past.{past}
-use Rattle.record.proofs.Commands.Command.{con, con-rsp, status-rsp, det, det-rsp, att-prp, det-prp, ul-data, bare}
-use Rattle.writer.specs.Parts.{chained, stationParts, resumeParts, centreParts, dutyParts, loadParts, reportParts, timesParts, signalParts, packetParts, answerParts, meterParts, attachmentParts, modesParts, pairsIn, groupsIn, bodyParts}
+use Rattle.record.specs.{Record.commandIn, Fits.fits, Written.payloadFor}
+use Rattle.record.specs.Says.{isNamed, bodySayings, sayingsOf, saysOf}
+use Rattle.record.specs.declared.{Body.Body, Message.Message}
+use Rattle.record.proofs.{Faultless.each-fits, Commands.Past.past}
+use Rattle.record.proofs.Commands.{Past, command, begins, bare-past}
+use Rattle.writer.specs.code.Parts.{chained, stationParts, resumeParts, centreParts, dutyParts, loadParts, reportParts, timesParts, signalParts, packetParts, answerParts, meterParts, attachmentParts, modesParts, pairsIn, groupsIn, bodyParts}
 use Rattle.writer.proofs.Fields.{partsFrom, maybe-is, always-is, counted, one-of, payload-by}
-
--- command and opId stand first in each list
-begins : {c : ℕ} → Command c → fieldsOf c ≡ headed (drop 2 (fieldsOf c))
-unfolding lists listIn
-begins con = refl
-begins con-rsp = refl
-begins status-rsp = refl
-begins det = refl
-begins det-rsp = refl
-begins att-prp = refl
-begins det-prp = refl
-begins ul-data = refl
-begins (bare (past i)) = refl
 
 -- by the variant: as many pairs are counted as are written, and the groups of fields are those of the list
 module _ (d : List ℕ) (z : ℤ) where
@@ -54,12 +29,12 @@ module _ (d : List ℕ) (z : ℤ) where
   abbrev says : Body → List ℕ → Option Value
   says b = saysOf (of b) d
 
-  bare-count : {c : ℕ} → Past c → 2 ≡ pairsOf (pairsFrom (fieldsOf c) (says (Body.Bare c)))
-  unfolding pairsFrom pairsOf lists listIn rowsOf bodyRows partIn
+  bare-count : {c : ℕ} → Past c → 2 ≡ pairCount (pairsFrom (fieldsOf c) (says (Body.Bare c)))
+  unfolding pairsFrom pairCount lists listIn sayingsOf bodySayings partIn
   bare-count (past i) = refl
 
-  count-is : (b : Body) → T (isNamed b) → pairsIn b ≡ pairsOf (pairsFrom (fieldsOf (commandIn b)) (says b))
-  unfolding pairsIn lists listIn rowsOf bodyRows partIn
+  count-is : (b : Body) → T (isNamed b) → pairsIn b ≡ pairCount (pairsFrom (fieldsOf (commandIn b)) (says b))
+  unfolding pairsIn lists listIn sayingsOf bodySayings partIn
   count-is (Body.Con x) t = omega (arith, simp one-of at (counted (fieldsOf 0) (says (Body.Con x))))
   count-is (Body.ConRsp x) t = omega (arith, simp one-of at (counted (fieldsOf 1) (says (Body.ConRsp x))))
   count-is (Body.StatusRsp x) t = omega (arith, simp one-of at (counted (fieldsOf 2) (says (Body.StatusRsp x))))
@@ -75,7 +50,7 @@ module _ (d : List ℕ) (z : ℤ) where
   bare-fields (past i) = refl
 
   fields-are : (b : Body) → T (isNamed b) → chained (groupsIn b d) ≡ partsFrom (drop 2 (fieldsOf (commandIn b))) (says b)
-  unfolding groupsIn chained stationParts resumeParts centreParts reportParts dutyParts loadParts packetParts timesParts signalParts answerParts meterParts attachmentParts modesParts partsFrom lists listIn rowsOf bodyRows partIn kinds kindIn textTree textHead bytesOf
+  unfolding groupsIn chained stationParts resumeParts centreParts reportParts dutyParts loadParts packetParts timesParts signalParts answerParts meterParts attachmentParts modesParts partsFrom lists listIn sayingsOf bodySayings partIn textTree textHead bytesOf
   fields-are (Body.Con x) t = simp (maybe-is, append-assoc) (simp always-is)
   fields-are (Body.ConRsp x) t = simp (maybe-is, append-assoc) (simp always-is)
   fields-are (Body.StatusRsp x) t = simp (maybe-is, append-assoc) (simp always-is)
@@ -96,13 +71,13 @@ module _ (m : Message) (d : List ℕ) where
       let z = m .«op_id» in
       let b = m .body in
       let first = begins (command (commandIn b)) in
-      let count = count-is d z b t ∙ ap (λ (l : List Field). pairsOf (pairsFrom l (saysOf m d))) first in
+      let count = count-is d z b t ∙ ap (λ (l : List Field). pairCount (pairsFrom l (saysOf m d))) first in
       payload-by m d (drop 2 own) (groupsIn b d) (pairsIn b) first count (fields-are d z b t)
 
   -- a record that fits is named
   pub fits-named : fits m d ≡ true → T (isNamed (m .body))
-  unfolding rowsOf partIn
+  unfolding sayingsOf partIn
   fits-named h =
-      let p = partIn (rowsOf m d) (bytes "command") in
-      let all : AllFit (rowsOf m d) (headed (drop 2 own)) = subst (AllFit (rowsOf m d)) (begins (command (commandIn (m .body)))) (each-fits m d h) in
-      both-left (isNamed (m .body)) true (both-left (p .clean) (saidFits (need "command" word) (p .said)) (all .0))
+      let p = partIn (sayingsOf m d) (bytes "command") in
+      let all : AllFit (sayingsOf m d) (headed (drop 2 own)) = subst (AllFit (sayingsOf m d)) (begins (command (commandIn (m .body)))) (each-fits m d h) in
+      both-left (isNamed (m .body)) true (both-left (p .clean) (saidFits (need "command" Kind.words) (p .said)) (all .0))

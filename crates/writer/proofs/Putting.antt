@@ -5,38 +5,33 @@ use mathlib.Core.Bool.{Bool, true, false, not}
 use mathlib.Core.List.{List, [], _∷_, _++_, append-nil}
 use Prim.Native.Nat.{ℕ, _+_, _<_, _^_}
 use native.Mathlib.Omega.{arith}
-use lib.Dec.{eqb}
-use lib.IntN.{ℤ}
+use lib.{Dec.eqb, IntN.ℤ, Seq.take-all, Signed.mag}
 use lib.ListN.{length, take, drop, length-append, drop-of-length-le}
-use lib.Seq.{take-all}
-use lib.Signed.{mag}
 use mir.Syntax.{w32, w64}
 use mir.Val.{toZ, ofZ, SFits}
 use mir.ValLaws.{toZ-ofZ}
 use borrow.Author.Tests.{ne-eqb}
-use Rattle.octets.specs.Bytes.{bigBytes, putAt, putNumber}
-use Rattle.octets.proofs.Digits.{length-big}
-use Rattle.octets.proofs.Ranges.{true-false}
-use Rattle.octets.proofs.Writing.{put-in, put-then}
-use Rattle.forms.specs.Put.{Put, putParts, mapParts, wholeParts, textParts, octetsParts}
+use Rattle.octets.specs.{Bytes.bigBytes, Bytes.putAt, code.Put.putNumber}
+use Rattle.octets.proofs.{Digits.length-big, Ranges.true-false, Writing.put-in, Writing.put-then}
+use Rattle.forms.specs.code.Put.{Put, putParts, mapParts, wholeParts, textParts, octetsParts}
 use Rattle.forms.proofs.Putting.{parts-then}
 use Rattle.record.specs.Says.{sixteenBytes}
 use Rattle.record.specs.declared.Sixteen.{Sixteen}
-use Rattle.writer.specs.Parts.{textOf, text, chained, pairIf, titleParts}
+use Rattle.writer.specs.code.Parts.{shortText, text, chained, pairPart, titleParts}
 
 -- a key, then its value, where the field is there
 module _ (k : List ℕ) (ps : List (List ℕ)) (a : Put) where
-  pub pair-none : (here : Bool) → not here ≡ true → a ≡ putParts (pairIf here k ps) a
-  unfolding putParts pairIf
+  pub pair-none : (here : Bool) → not here ≡ true → a ≡ putParts (pairPart here k ps) a
+  unfolding putParts pairPart
   pair-none true e = true-false (sym e)
   pair-none false e = refl
 
   module _ (b c : Put) where
-    pub pair-always : b ≡ putParts (k ∷ []) a → c ≡ putParts ps b → c ≡ putParts (pairIf true k ps) a
-    unfolding pairIf
+    pub pair-always : b ≡ putParts (k ∷ []) a → c ≡ putParts ps b → c ≡ putParts (pairPart true k ps) a
+    unfolding pairPart
     pair-always f g = parts-then (k ∷ []) ps a b c f g
 
-    pub pair-put : (here : Bool) → not here ≡ false → b ≡ putParts (k ∷ []) a → c ≡ putParts ps b → c ≡ putParts (pairIf here k ps) a
+    pub pair-put : (here : Bool) → not here ≡ false → b ≡ putParts (k ∷ []) a → c ≡ putParts ps b → c ≡ putParts (pairPart here k ps) a
     pair-put true e f g = pair-always f g
     pair-put false e f g = true-false e
 
@@ -46,10 +41,10 @@ code-wide z f = rw (toZ-ofZ w32 z f) (record { sfits = let h : mag z < 2 ^ 31 = 
 
 -- a signed number is handed on in its bits
 module _ (k : List ℕ) (a b c : Put) (z : ℤ) (e : b ≡ putParts (k ∷ []) a) where
-  pub pair-id : (here : Bool) → SFits w64 z → not here ≡ false → c ≡ putParts (wholeParts (toZ w64 (ofZ w64 z))) b → c ≡ putParts (pairIf here k (wholeParts z)) a
+  pub pair-id : (here : Bool) → SFits w64 z → not here ≡ false → c ≡ putParts (wholeParts (toZ w64 (ofZ w64 z))) b → c ≡ putParts (pairPart here k (wholeParts z)) a
   pair-id here f h g = pair-put k (wholeParts z) a b c here h e (rw (toZ-ofZ w64 z f) at g)
 
-  pub pair-code : SFits w32 z → c ≡ putParts (wholeParts (toZ w64 (ofZ w64 (toZ w32 (ofZ w32 z))))) b → c ≡ putParts (pairIf true k (wholeParts z)) a
+  pub pair-code : SFits w32 z → c ≡ putParts (wholeParts (toZ w64 (ofZ w64 (toZ w32 (ofZ w32 z))))) b → c ≡ putParts (pairPart true k (wholeParts z)) a
   pair-code f g = pair-always k (wholeParts z) a b c e (rw (toZ-ofZ w64 (toZ w32 (ofZ w32 z)) (code-wide z f), toZ-ofZ w32 z f) at g)
 
 pub ruleset pairs = (pair-none, pair-always, pair-put, pair-id, pair-code, code-wide)
@@ -80,9 +75,9 @@ module _ (ps qs : List (List ℕ)) (a b c : Put) (f : b ≡ putParts ps a) (g : 
       chain-5 ts y j = next ps a b f (qs ∷ rs ∷ ss ∷ ts ∷ []) y (next qs b c g (rs ∷ ss ∷ ts ∷ []) y (next rs c d h (ss ∷ ts ∷ []) y (next ss d x i (ts ∷ []) y (last ts x y j))))
 
 -- a status code is handed on in its 32 bits
-pub code-then : (z : ℤ) → SFits w32 z → (k : List ℕ) (qs rs : List (List ℕ)) (a b c d : Put) → b ≡ putParts (pairIf true k (wholeParts (toZ w32 (ofZ w32 z)))) a
-    → c ≡ putParts qs b → d ≡ putParts rs c → d ≡ putParts (chained (pairIf true k (wholeParts z) ∷ qs ∷ rs ∷ [])) a
-code-then z f k qs rs a b c d e g h = chain-3 (pairIf true k (wholeParts z)) qs a b c (rw (toZ-ofZ w32 z f) at e) g rs d h
+pub code-then : (z : ℤ) → SFits w32 z → (k : List ℕ) (qs rs : List (List ℕ)) (a b c d : Put) → b ≡ putParts (pairPart true k (wholeParts (toZ w32 (ofZ w32 z)))) a
+    → c ≡ putParts qs b → d ≡ putParts rs c → d ≡ putParts (chained (pairPart true k (wholeParts z) ∷ qs ∷ rs ∷ [])) a
+code-then z f k qs rs a b c d e g h = chain-3 (pairPart true k (wholeParts z)) qs a b c (rw (toZ-ofZ w32 z f) at e) g rs d h
 
 pub ruleset chains = (chain-2, chain-3, chain-4, chain-5)
 
@@ -92,7 +87,7 @@ pub title-put : (z : ℤ) → SFits w64 z → (h names : List ℕ) (o a b c : Pu
 title-put z f h names o a b c e g i = parts-then (h ∷ []) (names ∷ wholeParts z) o a c e (parts-then (names ∷ []) (wholeParts z) a b c g (rw (toZ-ofZ w64 z f) at i))
 
 module _ (z : ℤ) (f : SFits w64 z) (n k : ℕ) (name : List ℕ) (o a : Put) (e : n ≡ k)
-    (g : a ≡ putParts (mapParts n ++ ((text "command" ++ (textOf name ++ text "opId")) ∷ wholeParts (toZ w64 (ofZ w64 z)))) o) where
+    (g : a ≡ putParts (mapParts n ++ ((text "command" ++ (shortText name ++ text "opId")) ∷ wholeParts (toZ w64 (ofZ w64 z)))) o) where
   titled : a ≡ putParts (titleParts k name z) o
   unfolding titleParts
   titled = rw (e, toZ-ofZ w64 z f) at g
@@ -132,24 +127,24 @@ unfolding sixteenBytes
 sixteen-long x = omega (arith, length-append (bigBytes 8 (x .high)) (bigBytes 8 (x .low)), length-big 8 (x .high), length-big 8 (x .low))
 
 module _ (k : List ℕ) (a b : Put) where
-  pub four-put : (s t : List ℕ) (x : ℕ) → length s ≡ 4 → t ≡ putNumber s 0 4 (bigBytes 4 x) → b ≡ putParts (pairIf true k (octetsParts (take 4 t))) a → b ≡ putParts (pairIf true k (octetsParts (bigBytes 4 x))) a
+  pub four-put : (s t : List ℕ) (x : ℕ) → length s ≡ 4 → t ≡ putNumber s 0 4 (bigBytes 4 x) → b ≡ putParts (pairPart true k (octetsParts (take 4 t))) a → b ≡ putParts (pairPart true k (octetsParts (bigBytes 4 x))) a
   four-put s t x l e f =
       let w = bigBytes 4 x in
       let i : t ≡ w = e ∙ put-whole s w (omega (arith, length-big 4 x)) in
       let j : take 4 w ≡ w = take-all 4 w (omega (arith, length-big 4 x)) in
       rw (i, j) at f
 
-  pub sixteen-put : (t : List ℕ) (x : Sixteen) → t ≡ sixteenBytes x → b ≡ putParts (pairIf true k (octetsParts (take 16 t))) a → b ≡ putParts (pairIf true k (octetsParts (sixteenBytes x))) a
+  pub sixteen-put : (t : List ℕ) (x : Sixteen) → t ≡ sixteenBytes x → b ≡ putParts (pairPart true k (octetsParts (take 16 t))) a → b ≡ putParts (pairPart true k (octetsParts (sixteenBytes x))) a
   sixteen-put t x e f =
       let j : take 16 (sixteenBytes x) ≡ sixteenBytes x = take-all 16 (sixteenBytes x) (omega (arith, sixteen-long x)) in
       rw (e, j) at f
 
-  pub profile-put : (n : ℕ) (t : List ℕ) (x : Sixteen) → (n ≡ 0 → ⊥) → t ≡ sixteenBytes x → b ≡ putParts (pairIf true k (textParts (take n t))) a
-      → b ≡ putParts (pairIf (not (eqb n 0)) k (textParts (take n (sixteenBytes x)))) a
+  pub profile-put : (n : ℕ) (t : List ℕ) (x : Sixteen) → (n ≡ 0 → ⊥) → t ≡ sixteenBytes x → b ≡ putParts (pairPart true k (textParts (take n t))) a
+      → b ≡ putParts (pairPart (not (eqb n 0)) k (textParts (take n (sixteenBytes x)))) a
   profile-put n t x h e f = rw (ne-eqb n 0 h) (rw e at f)
 
-pub profile-none : (k : List ℕ) (ps : List (List ℕ)) (a : Put) (n : ℕ) → n ≡ 0 → a ≡ putParts (pairIf (not (eqb n 0)) k ps) a
-unfolding putParts pairIf
+pub profile-none : (k : List ℕ) (ps : List (List ℕ)) (a : Put) (n : ℕ) → n ≡ 0 → a ≡ putParts (pairPart (not (eqb n 0)) k ps) a
+unfolding putParts pairPart
 profile-none k ps a n e = rw e
 
 pub ruleset numbers = (spread-is, four-put, sixteen-put, profile-put, profile-none, arith)

@@ -1,2 +1,2 @@
-pub mod Parts
 pub mod Write
+pub mod code

@@ -2,15 +2,11 @@
 -- room stays.
 use Prim.Native.Nat.{ℕ}
 use mathlib.Core.List.{List}
-use lib.Dec.{leb}
-use lib.ListN.{length}
-use Rattle.octets.specs.Choice.{either}
-use Rattle.octets.specs.Bytes.{putAt}
+use lib.{Dec.leb, ListN.length}
+use Rattle.octets.specs.{Choice.either, Bytes.putAt}
 use Rattle.record.specs.declared.Message.{Message}
-use Rattle.record.specs.Fits.{fits}
-use Rattle.record.specs.Written.{frameFor}
-use Rattle.writer.specs.declared.Written.{Written}
-use Rattle.writer.specs.declared.Written.the-variants.{Whole, Refused}
+use Rattle.record.specs.{Fits.fits, Written.frameFor}
+use Rattle.writer.specs.declared.Written.{Written, the-variants.Whole, the-variants.Refused}
 
 -- an answer, and the room afterwards
 pub record Sent : Type 0 where
@@ -28,9 +24,9 @@ unfoldable pub written : Message → List ℕ → List ℕ → Sent
 written m d room = either (fits m d) (λ _. framed (frameFor m d) room) (λ _. sent (Refused 15) room)
 
 -- document 01's number and the length written of each answer
-abbrev pub refusalOf : Written → ℕ
-refusalOf (Whole n) = 0
-refusalOf (Refused k) = k
+abbrev pub writeRefusal : Written → ℕ
+writeRefusal (Whole n) = 0
+writeRefusal (Refused k) = k
 
 abbrev pub lengthOf : Written → ℕ
 lengthOf (Whole n) = n

@@ -1,21 +1,15 @@
 // con and conRsp.
 use crate::head::count;
 use crate::head::title;
-use crate::pair::id;
-use crate::pair::mark;
-use crate::pair::place;
-use crate::pair::sixteen;
-use crate::pair::version;
-use crate::pair::word;
+use crate::pair;
 use message::MaybeId;
 use record::Con;
 use record::ConRsp;
 use record::Sixteen;
-ghost use mathlib.Core.Path.{_≡_};
-ghost use mathlib.Core.List.{[]};
-ghost use Rattle.forms.specs.Put.{Put, put, putParts};
+ghost use mathlib.Core.{Path._≡_, List.[]};
+ghost use Rattle.forms.specs.code.Put.{Put, put, putParts};
 ghost use Rattle.record.specs.declared.Body.{Body};
-ghost use Rattle.writer.specs.Parts.{stationParts, resumeParts, centreParts, bodyParts};
+ghost use Rattle.writer.specs.code.Parts.{stationParts, resumeParts, centreParts, bodyParts};
 
 pub fn con(room: &mut [u8], at: usize, op_id: i64, x: Con) -> usize
     ensures { λ r. ⌜ _≡_ {A = Put} (put (now (room .exit)) r) (putParts (bodyParts «op_id» (Body.Con x) []) (put (now (room .entry)) at)) ⌝ }
@@ -41,19 +35,19 @@ fn station(room: &mut [u8], at: usize, x: Con) -> usize
 {
     let v = x.version;
     let g = x.geo_location;
-    let a = version(room, at, b"\xA7version", v);
-    let b = word(room, a, true, b"\xA5bsEui", x.bs_eui);
-    let c = mark(room, b, b"\xA4bidi", x.bidi);
-    place(room, c, b"\xABgeoLocation", g)
+    let a = pair::version(room, at, b"\xA7version", v);
+    let b = pair::word(room, a, true, b"\xA5bsEui", x.bs_eui);
+    let c = pair::mark(room, b, b"\xA4bidi", x.bidi);
+    pair::position(room, c, b"\xABgeoLocation", g)
 }
 
 // What a station tells of the session that it would resume.
 fn resume(room: &mut [u8], at: usize, uuid: Sixteen, station: MaybeId, centre: MaybeId) -> usize
     ensures { λ r. ⌜ _≡_ {A = Put} (put (now (room .exit)) r) (putParts (resumeParts uuid station centre) (put (now (room .entry)) at)) ⌝ }
 {
-    let a = sixteen(room, at, b"\xA8snBsUuid", uuid);
-    let b = id(room, a, b"\xA8snBsOpId", station);
-    id(room, b, b"\xA8snScOpId", centre)
+    let a = pair::sixteen(room, at, b"\xA8snBsUuid", uuid);
+    let b = pair::id(room, a, b"\xA8snBsOpId", station);
+    pair::id(room, b, b"\xA8snScOpId", centre)
 }
 
 pub fn con_rsp(room: &mut [u8], at: usize, op_id: i64, x: ConRsp) -> usize
@@ -69,8 +63,8 @@ fn centre(room: &mut [u8], at: usize, x: ConRsp) -> usize
 {
     let v = x.version;
     let u = x.sn_sc_uuid;
-    let a = version(room, at, b"\xA7version", v);
-    let b = word(room, a, true, b"\xA5scEui", x.sc_eui);
-    let c = mark(room, b, b"\xA8snResume", x.sn_resume);
-    sixteen(room, c, b"\xA8snScUuid", u)
+    let a = pair::version(room, at, b"\xA7version", v);
+    let b = pair::word(room, a, true, b"\xA5scEui", x.sc_eui);
+    let c = pair::mark(room, b, b"\xA8snResume", x.sn_resume);
+    pair::sixteen(room, c, b"\xA8snScUuid", u)
 }

@@ -7,15 +7,18 @@ mod propagate;
 mod received;
 mod status;
 
+use frame::HEAD;
+use octets::refusals;
 use payload::payload;
 use record::Message;
-ghost use mathlib.Core.Path.{_≡_};
-ghost use mathlib.Core.Bool.{true};
+ghost use mathlib.Core.{Path._≡_, Bool.true};
 ghost use Prim.Native.Nat.{_≤_};
-ghost use Rattle.record.specs.Fits.{fits};
-ghost use Rattle.record.specs.Written.{frameFor};
-ghost use Rattle.writer.specs.Parts.{withHead};
+ghost use Rattle.record.specs.{Fits.fits, Written.frameFor};
+ghost use Rattle.writer.specs.code.Parts.{withHead};
 ghost use Rattle.writer.specs.Write.{Sent, sent, framed, written};
+
+// So many bytes have place for any frame: 12 and a payload of at most 1,000.
+pub const MOST_FRAME: usize = 1012;
 
 // A frame and its length, or document 01's refusal 15 or 20.
 pub enum Written {
@@ -29,21 +32,20 @@ pub fn write(m: Message, d: &[u8], room: &mut [u8]) -> Written
     ensures { λ r. ⌜ _≡_ {A = Sent} (sent r (now (room .exit))) (written m (now (d .entry)) (now (room .entry))) ⌝ }
 {
     if faults::fault(m, d) != 0 {
-        return Written::Refused(15);
+        return Written::Refused(refusals::INVALID);
     }
     put(m, d, room)
 }
 
-// A record that is known to fit, as a whole frame at the start of the room; 20 where the room is shorter. A room of 1,012 bytes has place for any
-// frame: 12 bytes and a payload of at most 1,000.
+// A record that is known to fit, as a whole frame at the start of the room; 20 where the room is shorter.
 pub fn put(m: Message, d: &[u8], room: &mut [u8]) -> Written
     requires { ⌜ true ≡ fits m (now d) ⌝ }
     ensures { λ r. ⌜ _≡_ {A = Sent} (sent r (now (room .exit))) (framed (frameFor m (now (d .entry))) (now (room .entry))) ⌝ }
 {
-    if room.len() < 1012 {
+    if room.len() < MOST_FRAME {
         return put_short(m, d, room);
     }
-    let end = payload(room, 12, m, d);
+    let end = payload(room, HEAD, m, d);
     frame(room, end);
     Written::Whole(end)
 }
@@ -53,8 +55,8 @@ fn put_short(m: Message, d: &[u8], room: &mut [u8]) -> Written
     requires { ⌜ true ≡ fits m (now d) ⌝ }
     ensures { λ r. ⌜ _≡_ {A = Sent} (sent r (now (room .exit))) (framed (frameFor m (now (d .entry))) (now (room .entry))) ⌝ }
 {
-    let mut whole = [0u8; 1012];
-    let end = payload(&mut whole, 12, m, d);
+    let mut whole = [0u8; MOST_FRAME];
+    let end = payload(&mut whole, HEAD, m, d);
     frame(&mut whole, end);
     deliver(&whole[..end], room)
 }
@@ -65,7 +67,7 @@ fn deliver(made: &[u8], room: &mut [u8]) -> Written
 {
     let size = made.len();
     if room.len() < size {
-        return Written::Refused(20);
+        return Written::Refused(refusals::ROOM_TOO_SHORT);
     }
     forms::put_run(room, 0, made);
     Written::Whole(size)
@@ -76,6 +78,6 @@ fn frame(room: &mut [u8], end: usize)
     requires { ⌜ 12 ≤ end ⌝ }
     ensures { λ _. ⌜ now (room .exit) ≡ withHead (now (room .entry)) end ⌝ }
 {
-    octets::put_big(room, 0, 8, 0x4D49_4F54_5942_3031);
-    octets::put_little(room, 8, 4, (end - 12) as u64);
+    octets::put_big(room, 0, 8, frame::IDENTIFIER);
+    octets::put_little(room, 8, 4, (end - HEAD) as u64);
 }

@@ -1,95 +1,80 @@
 // A key and its value. The key is lent with its length in front, as it is written; where the field is not there nothing is written.
-use forms::put_id;
-use forms::put_mark;
-use forms::put_octets;
-use forms::put_position;
-use forms::put_real;
-use forms::put_run;
-use forms::put_text;
-use forms::put_version;
-use forms::put_word;
-use message::MaybeId;
-use message::MaybePosition;
-use message::MaybeVersion;
 use record::Sixteen;
-ghost use mathlib.Core.Path.{_≡_};
-ghost use mathlib.Core.Bool.{true, not};
-ghost use lib.Dec.{eqb};
-ghost use lib.IntN.{pos};
-ghost use lib.ListN.{length, take};
+ghost use mathlib.Core.{Path._≡_, Bool.true, Bool.not};
+ghost use lib.{Dec.eqb, IntN.pos, ListN.length, ListN.take};
 ghost use Rattle.octets.specs.Bytes.{bigBytes};
-ghost use Rattle.forms.specs.Put.{Put, put, putParts, wholeParts, realParts, markParts, textParts, octetsParts};
+ghost use Rattle.forms.specs.code.Put.{Put, put, putParts, wholeParts, realParts, markParts, textParts, octetsParts};
 ghost use Rattle.record.specs.Says.{sixteenBytes};
-ghost use Rattle.writer.specs.Parts.{text, pairIf, idIf, placeIf, versionIf};
+ghost use Rattle.writer.specs.code.Parts.{text, pairPart, idPart, positionPart, versionPart};
 
 pub fn word(room: &mut [u8], at: usize, here: bool, key: &[u8], x: u64) -> usize
-    ensures { λ r. ⌜ _≡_ {A = Put} (put (now (room .exit)) r) (putParts (pairIf here (now (key .entry)) (wholeParts (pos x))) (put (now (room .entry)) at)) ⌝ }
+    ensures { λ r. ⌜ _≡_ {A = Put} (put (now (room .exit)) r) (putParts (pairPart here (now (key .entry)) (wholeParts (pos x))) (put (now (room .entry)) at)) ⌝ }
 {
     if !here {
         return at;
     }
-    let next = put_run(room, at, key);
-    put_word(room, next, x)
+    let next = forms::put_run(room, at, key);
+    forms::put_word(room, next, x)
 }
 
-pub fn id(room: &mut [u8], at: usize, key: &[u8], x: MaybeId) -> usize
-    ensures { λ r. ⌜ _≡_ {A = Put} (put (now (room .exit)) r) (putParts (idIf (now (key .entry)) x) (put (now (room .entry)) at)) ⌝ }
+pub fn id(room: &mut [u8], at: usize, key: &[u8], x: message::MaybeId) -> usize
+    ensures { λ r. ⌜ _≡_ {A = Put} (put (now (room .exit)) r) (putParts (idPart (now (key .entry)) x) (put (now (room .entry)) at)) ⌝ }
 {
     if !x.here {
         return at;
     }
-    let next = put_run(room, at, key);
-    put_id(room, next, x.value)
+    let next = forms::put_run(room, at, key);
+    forms::put_id(room, next, x.value)
 }
 
 pub fn code(room: &mut [u8], at: usize, key: &[u8], x: i32) -> usize
-    ensures { λ r. ⌜ _≡_ {A = Put} (put (now (room .exit)) r) (putParts (pairIf true (now (key .entry)) (wholeParts x)) (put (now (room .entry)) at)) ⌝ }
+    ensures { λ r. ⌜ _≡_ {A = Put} (put (now (room .exit)) r) (putParts (pairPart true (now (key .entry)) (wholeParts x)) (put (now (room .entry)) at)) ⌝ }
 {
-    let next = put_run(room, at, key);
-    put_id(room, next, x as i64)
+    let next = forms::put_run(room, at, key);
+    forms::put_id(room, next, x as i64)
 }
 
 pub fn mark(room: &mut [u8], at: usize, key: &[u8], x: bool) -> usize
-    ensures { λ r. ⌜ _≡_ {A = Put} (put (now (room .exit)) r) (putParts (pairIf true (now (key .entry)) (markParts x)) (put (now (room .entry)) at)) ⌝ }
+    ensures { λ r. ⌜ _≡_ {A = Put} (put (now (room .exit)) r) (putParts (pairPart true (now (key .entry)) (markParts x)) (put (now (room .entry)) at)) ⌝ }
 {
-    let next = put_run(room, at, key);
-    put_mark(room, next, x)
+    let next = forms::put_run(room, at, key);
+    forms::put_mark(room, next, x)
 }
 
 pub fn real(room: &mut [u8], at: usize, here: bool, key: &[u8], x: f64) -> usize
-    ensures { λ r. ⌜ _≡_ {A = Put} (put (now (room .exit)) r) (putParts (pairIf here (now (key .entry)) (realParts x)) (put (now (room .entry)) at)) ⌝ }
+    ensures { λ r. ⌜ _≡_ {A = Put} (put (now (room .exit)) r) (putParts (pairPart here (now (key .entry)) (realParts x)) (put (now (room .entry)) at)) ⌝ }
 {
     if !here {
         return at;
     }
-    let next = put_run(room, at, key);
-    put_real(room, next, x)
+    let next = forms::put_run(room, at, key);
+    forms::put_real(room, next, x)
 }
 
 // The first n bytes of d, as an array of numbers.
 pub fn octets(room: &mut [u8], at: usize, key: &[u8], d: &[u8], n: u8) -> usize
-    ensures { λ r. ⌜ _≡_ {A = Put} (put (now (room .exit)) r) (putParts (pairIf true (now (key .entry)) (octetsParts (take n (now (d .entry))))) (put (now (room .entry)) at)) ⌝ }
+    ensures { λ r. ⌜ _≡_ {A = Put} (put (now (room .exit)) r) (putParts (pairPart true (now (key .entry)) (octetsParts (take n (now (d .entry))))) (put (now (room .entry)) at)) ⌝ }
 {
-    let next = put_run(room, at, key);
-    put_octets(room, next, d, n)
+    let next = forms::put_run(room, at, key);
+    forms::put_octets(room, next, d, n)
 }
 
 // The first n bytes of d, as a text.
 pub fn text(room: &mut [u8], at: usize, key: &[u8], d: &[u8], n: u8) -> usize
-    ensures { λ r. ⌜ _≡_ {A = Put} (put (now (room .exit)) r) (putParts (pairIf true (now (key .entry)) (textParts (take n (now (d .entry))))) (put (now (room .entry)) at)) ⌝ }
+    ensures { λ r. ⌜ _≡_ {A = Put} (put (now (room .exit)) r) (putParts (pairPart true (now (key .entry)) (textParts (take n (now (d .entry))))) (put (now (room .entry)) at)) ⌝ }
 {
-    let next = put_run(room, at, key);
-    put_text(room, next, d, n)
+    let next = forms::put_run(room, at, key);
+    forms::put_text(room, next, d, n)
 }
 
-pub fn place(room: &mut [u8], at: usize, key: &[u8], x: MaybePosition) -> usize
-    ensures { λ r. ⌜ _≡_ {A = Put} (put (now (room .exit)) r) (putParts (placeIf (now (key .entry)) x) (put (now (room .entry)) at)) ⌝ }
+pub fn position(room: &mut [u8], at: usize, key: &[u8], x: message::MaybePosition) -> usize
+    ensures { λ r. ⌜ _≡_ {A = Put} (put (now (room .exit)) r) (putParts (positionPart (now (key .entry)) x) (put (now (room .entry)) at)) ⌝ }
 {
     if !x.here {
         return at;
     }
-    let next = put_run(room, at, key);
-    put_position(
+    let next = forms::put_run(room, at, key);
+    forms::put_position(
         room,
         next,
         x.value.latitude,
@@ -98,18 +83,18 @@ pub fn place(room: &mut [u8], at: usize, key: &[u8], x: MaybePosition) -> usize
     )
 }
 
-pub fn version(room: &mut [u8], at: usize, key: &[u8], x: MaybeVersion) -> usize
-    ensures { λ r. ⌜ _≡_ {A = Put} (put (now (room .exit)) r) (putParts (versionIf (now (key .entry)) x) (put (now (room .entry)) at)) ⌝ }
+pub fn version(room: &mut [u8], at: usize, key: &[u8], x: message::MaybeVersion) -> usize
+    ensures { λ r. ⌜ _≡_ {A = Put} (put (now (room .exit)) r) (putParts (versionPart (now (key .entry)) x) (put (now (room .entry)) at)) ⌝ }
 {
     if !x.here {
         return at;
     }
-    let next = put_run(room, at, key);
-    put_version(room, next, x.major, x.minor, x.patch)
+    let next = forms::put_run(room, at, key);
+    forms::put_version(room, next, x.major, x.minor, x.patch)
 }
 
 pub fn four(room: &mut [u8], at: usize, key: &[u8], x: u32) -> usize
-    ensures { λ r. ⌜ _≡_ {A = Put} (put (now (room .exit)) r) (putParts (pairIf true (now (key .entry)) (octetsParts (bigBytes 4 x))) (put (now (room .entry)) at)) ⌝ }
+    ensures { λ r. ⌜ _≡_ {A = Put} (put (now (room .exit)) r) (putParts (pairPart true (now (key .entry)) (octetsParts (bigBytes 4 x))) (put (now (room .entry)) at)) ⌝ }
 {
     let mut t = [0u8; 4];
     octets::put_big(&mut t, 0, 4, x as u64);
@@ -126,7 +111,7 @@ fn spread(t: &mut [u8], x: Sixteen)
 }
 
 pub fn sixteen(room: &mut [u8], at: usize, key: &[u8], x: Sixteen) -> usize
-    ensures { λ r. ⌜ _≡_ {A = Put} (put (now (room .exit)) r) (putParts (pairIf true (now (key .entry)) (octetsParts (sixteenBytes x))) (put (now (room .entry)) at)) ⌝ }
+    ensures { λ r. ⌜ _≡_ {A = Put} (put (now (room .exit)) r) (putParts (pairPart true (now (key .entry)) (octetsParts (sixteenBytes x))) (put (now (room .entry)) at)) ⌝ }
 {
     let mut t = [0u8; 16];
     spread(&mut t, x);
@@ -135,7 +120,7 @@ pub fn sixteen(room: &mut [u8], at: usize, key: &[u8], x: Sixteen) -> usize
 
 // A profile of no bytes is absent.
 pub fn profile(room: &mut [u8], at: usize, n: u8, x: Sixteen) -> usize
-    ensures { λ r. ⌜ _≡_ {A = Put} (put (now (room .exit)) r) (putParts (pairIf (not (eqb n 0)) (text "profile") (textParts (take n (sixteenBytes x)))) (put (now (room .entry)) at)) ⌝ }
+    ensures { λ r. ⌜ _≡_ {A = Put} (put (now (room .exit)) r) (putParts (pairPart (not (eqb n 0)) (text "profile") (textParts (take n (sixteenBytes x)))) (put (now (room .entry)) at)) ⌝ }
 {
     if n == 0 {
         return at;

@@ -10,16 +10,13 @@ use crate::received::det;
 use crate::received::ul_data;
 use crate::status::status_rsp;
 use record::Body;
-use record::Message;
-ghost use mathlib.Core.Path.{_≡_};
-ghost use mathlib.Core.Bool.{true};
-ghost use mathlib.Core.List.{[]};
-ghost use Rattle.forms.specs.Put.{Put, put, putParts};
+ghost use mathlib.Core.{Path._≡_, Bool.true, List.[]};
+ghost use Rattle.forms.specs.code.Put.{Put, put, putParts};
 ghost use Rattle.record.specs.Says.{isNamed};
 ghost use Rattle.record.specs.declared.Body.{Body};
-ghost use Rattle.writer.specs.Parts.{bodyParts};
+ghost use Rattle.writer.specs.code.Parts.{bodyParts};
 
-pub fn payload(room: &mut [u8], at: usize, m: Message, d: &[u8]) -> usize
+pub fn payload(room: &mut [u8], at: usize, m: record::Message, d: &[u8]) -> usize
     requires { ⌜ true ≡ isNamed (m .body) ⌝ }
     ensures { λ r. ⌜ _≡_ {A = Put} (put (now (room .exit)) r) (putParts (bodyParts (m .«op_id») (m .body) (now (d .entry))) (put (now (room .entry)) at)) ⌝ }
 {

@@ -1,17 +1,12 @@
 // attPrp.
 use crate::head::title;
-use crate::pair::mark;
-use crate::pair::sixteen;
-use crate::pair::word;
-use record::AttPrp;
-use record::Sixteen;
-ghost use mathlib.Core.Path.{_≡_};
-ghost use mathlib.Core.List.{[]};
-ghost use Rattle.forms.specs.Put.{Put, put, putParts};
+use crate::pair;
+ghost use mathlib.Core.{Path._≡_, List.[]};
+ghost use Rattle.forms.specs.code.Put.{Put, put, putParts};
 ghost use Rattle.record.specs.declared.Body.{Body};
-ghost use Rattle.writer.specs.Parts.{meterParts, attachmentParts, modesParts, bodyParts};
+ghost use Rattle.writer.specs.code.Parts.{meterParts, attachmentParts, modesParts, bodyParts};
 
-pub fn att_prp(room: &mut [u8], at: usize, op_id: i64, x: AttPrp) -> usize
+pub fn att_prp(room: &mut [u8], at: usize, op_id: i64, x: record::AttPrp) -> usize
     ensures { λ r. ⌜ _≡_ {A = Put} (put (now (room .exit)) r) (putParts (bodyParts «op_id» (Body.AttPrp x) []) (put (now (room .entry)) at)) ⌝ }
 {
     let k = x.nwk_sn_key;
@@ -31,23 +26,23 @@ pub fn att_prp(room: &mut [u8], at: usize, op_id: i64, x: AttPrp) -> usize
 fn meter(room: &mut [u8], at: usize, eui: u64, bidi: bool) -> usize
     ensures { λ r. ⌜ _≡_ {A = Put} (put (now (room .exit)) r) (putParts (meterParts eui bidi) (put (now (room .entry)) at)) ⌝ }
 {
-    let a = word(room, at, true, b"\xA5epEui", eui);
-    mark(room, a, b"\xA4bidi", bidi)
+    let a = pair::word(room, at, true, b"\xA5epEui", eui);
+    pair::mark(room, a, b"\xA4bidi", bidi)
 }
 
-fn attachment(room: &mut [u8], at: usize, key: Sixteen, short: u16, counter: u32) -> usize
+fn attachment(room: &mut [u8], at: usize, key: record::Sixteen, short: u16, counter: u32) -> usize
     ensures { λ r. ⌜ _≡_ {A = Put} (put (now (room .exit)) r) (putParts (attachmentParts key short counter) (put (now (room .entry)) at)) ⌝ }
 {
-    let a = sixteen(room, at, b"\xA8nwkSnKey", key);
-    let b = word(room, a, true, b"\xA6shAddr", short as u64);
-    word(room, b, true, b"\xADlastPacketCnt", counter as u64)
+    let a = pair::sixteen(room, at, b"\xA8nwkSnKey", key);
+    let b = pair::word(room, a, true, b"\xA6shAddr", short as u64);
+    pair::word(room, b, true, b"\xADlastPacketCnt", counter as u64)
 }
 
 fn modes(room: &mut [u8], at: usize, dual: bool, repeated: bool, wide: bool, long: bool) -> usize
     ensures { λ r. ⌜ _≡_ {A = Put} (put (now (room .exit)) r) (putParts (modesParts dual repeated wide long) (put (now (room .entry)) at)) ⌝ }
 {
-    let a = mark(room, at, b"\xA8dualChan", dual);
-    let b = mark(room, a, b"\xAArepetition", repeated);
-    let c = mark(room, b, b"\xABwideCarrOff", wide);
-    mark(room, c, b"\xABlongBlkDist", long)
+    let a = pair::mark(room, at, b"\xA8dualChan", dual);
+    let b = pair::mark(room, a, b"\xAArepetition", repeated);
+    let c = pair::mark(room, b, b"\xABwideCarrOff", wide);
+    pair::mark(room, c, b"\xABlongBlkDist", long)
 }

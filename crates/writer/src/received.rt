@@ -1,23 +1,14 @@
 // det and ulData, whose data are lent. What is told of the packet is the same in both.
 use crate::head::count;
 use crate::head::title;
-use crate::pair::four;
-use crate::pair::mark;
-use crate::pair::octets;
-use crate::pair::profile;
-use crate::pair::real;
-use crate::pair::word;
-use message::Signal;
-use record::Det;
+use crate::pair;
 use record::Packet;
-use record::UlData;
-ghost use mathlib.Core.Path.{_≡_};
-ghost use mathlib.Core.List.{[]};
-ghost use Rattle.forms.specs.Put.{Put, put, putParts};
+ghost use mathlib.Core.{Path._≡_, List.[]};
+ghost use Rattle.forms.specs.code.Put.{Put, put, putParts};
 ghost use Rattle.record.specs.declared.Body.{Body};
-ghost use Rattle.writer.specs.Parts.{timesParts, signalParts, packetParts, answerParts, bodyParts};
+ghost use Rattle.writer.specs.code.Parts.{timesParts, signalParts, packetParts, answerParts, bodyParts};
 
-pub fn det(room: &mut [u8], at: usize, op_id: i64, x: Det) -> usize
+pub fn det(room: &mut [u8], at: usize, op_id: i64, x: record::Det) -> usize
     ensures { λ r. ⌜ _≡_ {A = Put} (put (now (room .exit)) r) (putParts (bodyParts «op_id» (Body.Det x) []) (put (now (room .entry)) at)) ⌝ }
 {
     let p = x.packet;
@@ -31,10 +22,10 @@ pub fn det(room: &mut [u8], at: usize, op_id: i64, x: Det) -> usize
     );
     let a = title(room, at, n, b"\xA7command\xA3det\xA4opId", op_id);
     let b = packet(room, a, p);
-    four(room, b, b"\xA4sign", x.sign)
+    pair::four(room, b, b"\xA4sign", x.sign)
 }
 
-pub fn ul_data(room: &mut [u8], at: usize, op_id: i64, x: UlData, d: &[u8]) -> usize
+pub fn ul_data(room: &mut [u8], at: usize, op_id: i64, x: record::UlData, d: &[u8]) -> usize
     ensures { λ r. ⌜ _≡_ {A = Put} (put (now (room .exit)) r) (putParts (bodyParts «op_id» (Body.UlData x) (now (d .entry))) (put (now (room .entry)) at)) ⌝ }
 {
     let p = x.packet;
@@ -48,7 +39,7 @@ pub fn ul_data(room: &mut [u8], at: usize, op_id: i64, x: UlData, d: &[u8]) -> u
     );
     let a = title(room, at, n, b"\xA7command\xA6ulData\xA4opId", op_id);
     let b = packet(room, a, p);
-    let c = octets(room, b, b"\xA8userData", d, x.user_len);
+    let c = pair::octets(room, b, b"\xA8userData", d, x.user_len);
     answer(room, c, x.format, x.dl_open, x.response_exp, x.dl_ack)
 }
 
@@ -59,38 +50,38 @@ fn packet(room: &mut [u8], at: usize, p: Packet) -> usize
     let t = p.profile;
     let a = times(room, at, p);
     let b = signal(room, a, s);
-    profile(room, b, p.profile_len, t)
+    pair::profile(room, b, p.profile_len, t)
 }
 
 fn times(room: &mut [u8], at: usize, p: Packet) -> usize
     ensures { λ r. ⌜ _≡_ {A = Put} (put (now (room .exit)) r) (putParts (timesParts p) (put (now (room .entry)) at)) ⌝ }
 {
-    let a = word(room, at, true, b"\xA5epEui", p.ep_eui);
-    let b = word(room, a, true, b"\xA6rxTime", p.rx_time);
-    let c = word(
+    let a = pair::word(room, at, true, b"\xA5epEui", p.ep_eui);
+    let b = pair::word(room, a, true, b"\xA6rxTime", p.rx_time);
+    let c = pair::word(
         room,
         b,
         p.rx_duration.here,
         b"\xAArxDuration",
         p.rx_duration.value,
     );
-    word(room, c, true, b"\xA9packetCnt", p.packet_cnt as u64)
+    pair::word(room, c, true, b"\xA9packetCnt", p.packet_cnt as u64)
 }
 
-fn signal(room: &mut [u8], at: usize, s: Signal) -> usize
+fn signal(room: &mut [u8], at: usize, s: message::Signal) -> usize
     ensures { λ r. ⌜ _≡_ {A = Put} (put (now (room .exit)) r) (putParts (signalParts s) (put (now (room .entry)) at)) ⌝ }
 {
-    let a = real(room, at, true, b"\xA3snr", s.snr);
-    let b = real(room, a, true, b"\xA4rssi", s.rssi);
-    real(room, b, s.has_eq_snr, b"\xA5eqSnr", s.eq_snr)
+    let a = pair::real(room, at, true, b"\xA3snr", s.snr);
+    let b = pair::real(room, a, true, b"\xA4rssi", s.rssi);
+    pair::real(room, b, s.has_eq_snr, b"\xA5eqSnr", s.eq_snr)
 }
 
 // A format of 0 isn't written.
 fn answer(room: &mut [u8], at: usize, format: u8, window: bool, expected: bool, ack: bool) -> usize
     ensures { λ r. ⌜ _≡_ {A = Put} (put (now (room .exit)) r) (putParts (answerParts format window expected ack) (put (now (room .entry)) at)) ⌝ }
 {
-    let a = word(room, at, format != 0, b"\xA6format", format as u64);
-    let b = mark(room, a, b"\xA6dlOpen", window);
-    let c = mark(room, b, b"\xABresponseExp", expected);
-    mark(room, c, b"\xA5dlAck", ack)
+    let a = pair::word(room, at, format != 0, b"\xA6format", format as u64);
+    let b = pair::mark(room, a, b"\xA6dlOpen", window);
+    let c = pair::mark(room, b, b"\xABresponseExp", expected);
+    pair::mark(room, c, b"\xA5dlAck", ack)
 }

@@ -6,22 +6,9 @@ use borrow.Author.Needs.{needs}
 use Rattle.layout.proofs.put_head.Statement.{statement}
 use Rattle.layout.proofs.put_head.Tie as tie
 
-clear-requires : tie.Need-clear-requires
-clear-requires c κs = search needs
-
-put-id-requires : tie.Need-put-id-requires
-put-id-requires c κs = search needs
-
-put-small-requires : tie.Need-put-small-requires
-put-small-requires c κs = search needs
-
-same-length : tie.Need-same-length
-same-length c = search needs
-
 returns : tie.Need-returns
 unfolding laid
 returns c = cc (toZ-ofZ w64 (c .before .before .before .before .before .before .before .before .before .before .before .before .before .args .z) (c .before .before .before .before .before .before .before .before .before .before .before .before .before .fits .z))
 
 pub put-head-spec : {M : Type 1} → statement M
-put-head-spec =
-    tie.close (tie.spec clear-requires put-id-requires put-small-requires same-length returns)
+put-head-spec = tie.close (tie.spec (search needs) (search needs) (search needs) (λ c. search needs) returns)

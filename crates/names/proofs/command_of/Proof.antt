@@ -2,8 +2,7 @@
 -- Assumes nothing.
 use borrow.Author.Needs.{needs}
 use Rattle.names.specs.Names.{commands, commandOf}
-use Rattle.names.proofs.Parts.{read}
-use Rattle.names.proofs.command_of.Statement.{statement}
+use Rattle.names.proofs.{Parts.read, command_of.Statement.statement}
 use Rattle.names.proofs.command_of.Tie as tie
 
 pub command-of-spec : {M : Type 1} → statement M

@@ -5,17 +5,8 @@ use borrow.Author.Needs.{needs}
 use Rattle.chozukpima.proofs.sessions.chz_lost.Statement.{statement}
 use Rattle.chozukpima.proofs.sessions.chz_lost.Tie as tie
 
-lose-requires : tie.Need-lose-requires
-lose-requires c κs = search needs
-
-step-answer-requires : tie.Need-step-answer-requires
-step-answer-requires c κs = search needs
-
-same-length : tie.Need-same-length
-same-length c = search needs
-
 returns : tie.Need-returns
 returns c = (c .step-answer .ensures ∙ ap stepAnswer (c .before .before .before .lose .ensures .0), c .before .before .before .lose .ensures .1)
 
 pub chz-lost-spec : {M : Type 1} → statement M
-chz-lost-spec = tie.close (tie.spec lose-requires step-answer-requires same-length returns)
+chz-lost-spec = tie.close (tie.spec (search needs) (search needs) (λ c. search needs) returns)

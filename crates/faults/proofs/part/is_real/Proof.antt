@@ -1,17 +1,7 @@
 -- `is_real` meets its contract, by proofs/Reals. Assumes nothing.
 use borrow.Author.Needs.{needs}
-use Rattle.faults.proofs.Reals.{reals}
-use Rattle.faults.proofs.part.is_real.Statement.{statement}
+use Rattle.faults.proofs.{Reals.reals, part.is_real.Statement.statement}
 use Rattle.faults.proofs.part.is_real.Tie as tie
 
-returns : tie.Need-returns
-returns c = search (reals, needs)
-
-float-to-bits-result : tie.Need-float-to-bits-result
-float-to-bits-result c = search (reals, needs)
-
-returns-2 : tie.Need-returns-2
-returns-2 c = search (reals, needs)
-
 pub is-real-spec : {M : Type 1} → statement M
-is-real-spec = tie.close (tie.spec returns float-to-bits-result returns-2)
+is-real-spec = tie.close (tie.spec (λ c. search (reals, needs)) (λ c. search (reals, needs)) (λ c. search (reals, needs)))

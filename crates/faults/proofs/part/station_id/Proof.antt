@@ -1,14 +1,7 @@
 -- `station_id` meets its contract, by proofs/Ids. Assumes nothing.
 use borrow.Author.Needs.{needs}
-use Rattle.faults.proofs.Ids.{ids}
-use Rattle.faults.proofs.part.station_id.Statement.{statement}
+use Rattle.faults.proofs.{Ids.ids, part.station_id.Statement.statement}
 use Rattle.faults.proofs.part.station_id.Tie as tie
 
-returns : tie.Need-returns
-returns c = search (ids, needs)
-
-returns-2 : tie.Need-returns-2
-returns-2 c = search (ids, needs)
-
 pub station-id-spec : {M : Type 1} → statement M
-station-id-spec = tie.close (tie.spec returns returns-2)
+station-id-spec = tie.close (tie.spec (λ c. search (ids, needs)) (λ c. search (ids, needs)))

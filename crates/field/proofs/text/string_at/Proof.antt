@@ -1,24 +1,10 @@
 -- The part is there or not, and its size is the text's length. Assumes nothing.
 use borrow.Author.Needs.{needs}
-use Rattle.field.proofs.Texts.{texts}
-use Rattle.field.proofs.text.string_at.Statement.{statement}
+use Rattle.field.proofs.{Texts.texts, text.string_at.Statement.statement}
 use Rattle.field.proofs.text.string_at.Tie as tie
-
-text-at-requires : tie.Need-text-at-requires
-text-at-requires c κs = search (texts, needs)
-
-sized-requires : tie.Need-sized-requires
-sized-requires c κs = search (texts, needs)
-
-bad-requires : tie.Need-bad-requires
-bad-requires c κs = search (texts, needs)
-
-returns : tie.Need-returns
-returns c = search (texts, needs)
-
-returns-2 : tie.Need-returns-2
-returns-2 c = search (texts, needs)
 
 pub string-at-spec : {M : Type 1} → statement M
 string-at-spec =
-    tie.close (tie.spec text-at-requires sized-requires bad-requires returns returns-2)
+    tie.close
+    (tie.spec (λ c κs. search (texts, needs)) (λ c κs. search (texts, needs)) (λ c κs. search (texts, needs)) (λ c. search (texts, needs))
+    (λ c. search (texts, needs)))

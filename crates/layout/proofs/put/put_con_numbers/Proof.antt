@@ -6,32 +6,9 @@ use borrow.Author.Needs.{needs}
 use Rattle.layout.proofs.put.put_con_numbers.Statement.{statement}
 use Rattle.layout.proofs.put.put_con_numbers.Tie as tie
 
-put-word-requires : tie.Need-put-word-requires
-put-word-requires c κs = search needs
-
-put-id-requires : tie.Need-put-id-requires
-put-id-requires c κs = search needs
-
-put-id-requires-2 : tie.Need-put-id-requires-2
-put-id-requires-2 c κs = search needs
-
-put-reals-requires : tie.Need-put-reals-requires
-put-reals-requires c κs = search needs
-
-same-length : tie.Need-same-length
-same-length c = search needs
-
 returns : tie.Need-returns
 unfolding laid conLies
 returns c = let x = c .before .before .before .before .before .before .before .before .before .before .before .before .before .before .before .before .before .before .before .args .x in cc (toZ-ofZ w64 (x .«sn_bs_op_id» .value) (search (c .before .before .before .before .before .before .before .before .before .before .before .before .struct-told .given, needs)), toZ-ofZ w64 (x .«sn_sc_op_id» .value) (search (c .before .before .before .before .before .before .before .struct-told2 .given, needs)))
 
 pub put-con-numbers-spec : {M : Type 1} → statement M
-put-con-numbers-spec =
-    tie.close
-    (tie.spec
-    put-word-requires
-    put-id-requires
-    put-id-requires-2
-    put-reals-requires
-    same-length
-    returns)
+put-con-numbers-spec = tie.close (tie.spec (search needs) (search needs) (search needs) (search needs) (λ c. search needs) returns)

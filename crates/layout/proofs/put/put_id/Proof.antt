@@ -5,17 +5,8 @@ use borrow.Author.Needs.{needs}
 use Rattle.layout.proofs.put.put_id.Statement.{statement}
 use Rattle.layout.proofs.put.put_id.Tie as tie
 
-bits-of-requires : tie.Need-bits-of-requires
-bits-of-requires c κs = search needs
-
-put-little-requires : tie.Need-put-little-requires
-put-little-requires c κs = search needs
-
-same-length : tie.Need-same-length
-same-length c = search needs
-
 returns : tie.Need-returns
 returns c = cc (toZ-ofZ w64 (c .before .before .before .before .before .before .args .z) (c .before .before .before .before .before .before .fits .z))
 
 pub put-id-spec : {M : Type 1} → statement M
-put-id-spec = tie.close (tie.spec bits-of-requires put-little-requires same-length returns)
+put-id-spec = tie.close (tie.spec (search needs) (search needs) (λ c. search needs) returns)

@@ -1,33 +1,8 @@
 -- `body_in` meets its contract, by the laws of proofs/. Assumes nothing.
 use Rattle.record.specs.Record.{bodyIn}
-use Rattle.layout.proofs.Taking.{bodies}
+use Rattle.layout.proofs.{Taking.bodies, taken.body_in.Statement.statement}
 use borrow.Author.Needs.{needs}
-use Rattle.layout.proofs.taken.body_in.Statement.{statement}
 use Rattle.layout.proofs.taken.body_in.Tie as tie
-
-con-in-requires : tie.Need-con-in-requires
-con-in-requires c κs = search needs
-
-con-rsp-in-requires : tie.Need-con-rsp-in-requires
-con-rsp-in-requires c κs = search needs
-
-status-rsp-in-requires : tie.Need-status-rsp-in-requires
-status-rsp-in-requires c κs = search needs
-
-det-in-requires : tie.Need-det-in-requires
-det-in-requires c κs = search needs
-
-four-requires : tie.Need-four-requires
-four-requires c κs = search needs
-
-att-prp-in-requires : tie.Need-att-prp-in-requires
-att-prp-in-requires c κs = search needs
-
-word-requires : tie.Need-word-requires
-word-requires c κs = search needs
-
-ul-data-in-requires : tie.Need-ul-data-in-requires
-ul-data-in-requires c κs = search needs
 
 returns : tie.Need-returns
 unfolding bodyIn
@@ -68,21 +43,5 @@ returns-9 c = search (bodies, needs)
 pub body-in-spec : {M : Type 1} → statement M
 body-in-spec =
     tie.close
-    (tie.spec
-    con-in-requires
-    con-rsp-in-requires
-    status-rsp-in-requires
-    det-in-requires
-    four-requires
-    att-prp-in-requires
-    word-requires
-    ul-data-in-requires
-    returns
-    returns-2
-    returns-3
-    returns-4
-    returns-5
-    returns-6
-    returns-7
-    returns-8
-    returns-9)
+    (tie.spec (search needs) (search needs) (search needs) (search needs) (search needs) (search needs) (search needs) (search needs) returns returns-2
+    returns-3 returns-4 returns-5 returns-6 returns-7 returns-8 returns-9)

@@ -5,14 +5,8 @@ use borrow.Author.Needs.{needs}
 use Rattle.layout.proofs.taken.id.Statement.{statement}
 use Rattle.layout.proofs.taken.id.Tie as tie
 
-word-requires : tie.Need-word-requires
-word-requires c κs = search needs
-
-signed-of-requires : tie.Need-signed-of-requires
-signed-of-requires c κs = search needs
-
 returns : tie.Need-returns
 returns c = cc (toZ-ofZ w64 (c .signed-of .result) (record { sfits = c .signed-of .ok }))
 
 pub id-spec : {M : Type 1} → statement M
-id-spec = tie.close (tie.spec word-requires signed-of-requires returns)
+id-spec = tie.close (tie.spec (search needs) (search needs) returns)

@@ -3,11 +3,8 @@ use borrow.Author.Needs.{needs}
 use Rattle.layout.proofs.taken.is_set.Statement.{statement}
 use Rattle.layout.proofs.taken.is_set.Tie as tie
 
-byte-requires : tie.Need-byte-requires
-byte-requires c κs = search needs
-
 returns : tie.Need-returns
 returns c = cc
 
 pub is-set-spec : {M : Type 1} → statement M
-is-set-spec = tie.close (tie.spec byte-requires returns)
+is-set-spec = tie.close (tie.spec (search needs) returns)

@@ -3,17 +3,8 @@ use borrow.Author.Needs.{needs}
 use Rattle.layout.proofs.taken.position.Statement.{statement}
 use Rattle.layout.proofs.taken.position.Tie as tie
 
-figure-requires : tie.Need-figure-requires
-figure-requires c κs = search needs
-
-figure-requires-2 : tie.Need-figure-requires-2
-figure-requires-2 c κs = search needs
-
-figure-requires-3 : tie.Need-figure-requires-3
-figure-requires-3 c κs = search needs
-
 returns : tie.Need-returns
 returns c = cc
 
 pub position-spec : {M : Type 1} → statement M
-position-spec = tie.close (tie.spec figure-requires figure-requires-2 figure-requires-3 returns)
+position-spec = tie.close (tie.spec (search needs) (search needs) (search needs) returns)

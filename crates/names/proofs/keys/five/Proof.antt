@@ -1,9 +1,7 @@
 -- `keys::five` meets its contract: at each return both numbers are a name's, or one is no name's. Assumes nothing.
 use Rattle.octets.specs.Number.{bigAt}
-use Rattle.names.specs.Names.{keys}
-use Rattle.names.specs.Numbers.{firstWith}
-use Rattle.names.proofs.Arms.{arms}
-use Rattle.names.proofs.keys.five.Statement.{statement}
+use Rattle.names.specs.{code.Slots.keys, code.Numbers.firstWith}
+use Rattle.names.proofs.{Arms.arms, keys.five.Statement.statement}
 use Rattle.names.proofs.keys.five.Tie as tie
 
 pub five-spec : {M : Type 1} → statement M

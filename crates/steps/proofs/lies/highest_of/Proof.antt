@@ -2,9 +2,7 @@
 use native.Mathlib.Omega.{arith}
 use borrow.Author.Needs.{needs}
 use Rattle.session.specs.Image.{sessionAt}
-use Rattle.steps.proofs.Storing.{long}
-use Rattle.steps.proofs.Knowing.{highest-zero, highest-kept}
-use Rattle.steps.proofs.lies.highest_of.Statement.{statement}
+use Rattle.steps.proofs.{Storing.long, Knowing.highest-zero, Knowing.highest-kept, lies.highest_of.Statement.statement}
 use Rattle.steps.proofs.lies.highest_of.Tie as tie
 
 id-at-requires : tie.Need-id-at-requires

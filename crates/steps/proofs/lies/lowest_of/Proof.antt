@@ -2,9 +2,7 @@
 use native.Mathlib.Omega.{arith}
 use borrow.Author.Needs.{needs}
 use Rattle.session.specs.Image.{sessionAt}
-use Rattle.steps.proofs.Storing.{long}
-use Rattle.steps.proofs.Knowing.{lowest-zero, lowest-kept}
-use Rattle.steps.proofs.lies.lowest_of.Statement.{statement}
+use Rattle.steps.proofs.{Storing.long, Knowing.lowest-zero, Knowing.lowest-kept, lies.lowest_of.Statement.statement}
 use Rattle.steps.proofs.lies.lowest_of.Tie as tie
 
 id-at-requires : tie.Need-id-at-requires

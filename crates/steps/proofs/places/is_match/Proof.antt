@@ -1,7 +1,6 @@
 -- Three tests, two of them on the bits of signed numbers. Assumes nothing.
 use Rattle.session.specs.Place.{entry}
-use Rattle.steps.proofs.Searching.{match-is, zero-bits}
-use Rattle.steps.proofs.places.is_match.Statement.{statement}
+use Rattle.steps.proofs.{Searching.match-is, Searching.zero-bits, places.is_match.Statement.statement}
 use Rattle.steps.proofs.places.is_match.Tie as tie
 
 returns : tie.Need-returns

@@ -19,8 +19,7 @@ use Rattle.walk.proofs.steps.pairs.Reads as pairs
 use Rattle.walk.proofs.steps.+any_pair+element+held+pair+pairs+values.Lts-pairs as pairs-lts
 use Rattle.walk.proofs.steps.values.Reads as values
 use Rattle.walk.proofs.steps.+any_pair+element+held+pair+pairs+values.Lts-values as values-lts
-use Rattle.walk.proofs.steps.+any_pair+element+held+pair+pairs+values.{statement}
-use Rattle.walk.proofs.steps.+any_pair+element+held+pair+pairs+values.Tie.{close}
+use Rattle.walk.proofs.{steps.+any_pair+element+held+pair+pairs+values.statement, steps.+any_pair+element+held+pair+pairs+values.Tie.close}
 use Measures.{μ-any-pair, μ-element, μ-held, μ-pair, μ-pairs, μ-values, any-pair-at, element-at, held-at, pair-at, pairs-at, values-at}
 
 pub +any-pair+element+held+pair+pairs+values-spec : {M : Type 1} → statement M

@@ -1,31 +1,9 @@
 -- `det` meets its contract, by the laws of proofs/Putting. Assumes nothing.
 use Rattle.names.specs.Names.{commands, nameAt}
-use Rattle.writer.specs.Parts.{pairsIn, groupsIn, bodyParts}
-use Rattle.writer.proofs.Putting.{titles}
+use Rattle.writer.specs.code.Parts.{pairsIn, groupsIn, bodyParts}
+use Rattle.writer.proofs.{Putting.titles, received.det.Statement.statement}
 use borrow.Author.Needs.{needs}
-use Rattle.writer.proofs.received.det.Statement.{statement}
 use Rattle.writer.proofs.received.det.Tie as tie
-
-count-requires : tie.Need-count-requires
-count-requires c κs = search needs
-
-slice-aggregate-title : tie.Need-slice-aggregate-title
-slice-aggregate-title c = search needs
-
-title-requires : tie.Need-title-requires
-title-requires c κs = search needs
-
-packet-requires : tie.Need-packet-requires
-packet-requires c κs = search needs
-
-slice-aggregate-four : tie.Need-slice-aggregate-four
-slice-aggregate-four c = search needs
-
-four-requires : tie.Need-four-requires
-four-requires c κs = search needs
-
-same-length : tie.Need-same-length
-same-length c = search needs
 
 returns : tie.Need-returns
 unfolding bodyParts pairsIn groupsIn commands nameAt
@@ -34,12 +12,5 @@ returns c = search titles
 pub det-spec : {M : Type 1} → statement M
 det-spec =
     tie.close
-    (tie.spec
-    count-requires
-    slice-aggregate-title
-    title-requires
-    packet-requires
-    slice-aggregate-four
-    four-requires
-    same-length
-    returns)
+    (tie.spec (λ c κs. search needs) (λ c. search needs) (λ c κs. search needs) (λ c κs. search needs) (λ c. search needs) (λ c κs. search needs)
+    (λ c. search needs) returns)

@@ -1,10 +1,9 @@
 -- The loop over pairs: the answer from here on is the answer. The pairs left fall. Assumes nothing.
 use Prim.Native.Nat.{ℕ}
-use mathlib.Core.Path.{_≡_}
-use mathlib.Core.Bool.{true}
+use mathlib.Core.{Path._≡_, Bool.true}
 use borrow.Author.Needs.{needs}
 use native.Mathlib.Omega.{arith}
-use Rattle.element.specs.Form.{itemsOf}
+use Rattle.element.specs.code.Items.{itemsOf}
 use Rattle.walk.proofs.short.is_short.Reads as is-short-reads
 use Rattle.walk.proofs.steps.pair.Reads as pair
 use Rattle.walk.proofs.steps.pairs.Reads as pairs

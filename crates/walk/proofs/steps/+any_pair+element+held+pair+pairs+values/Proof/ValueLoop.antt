@@ -1,10 +1,9 @@
 -- The loop over parts: the answer from here on is the answer. The parts left fall. Assumes nothing.
 use Prim.Native.Nat.{ℕ}
-use mathlib.Core.Path.{_≡_}
-use mathlib.Core.Bool.{false}
+use mathlib.Core.{Path._≡_, Bool.false}
 use borrow.Author.Needs.{needs}
 use native.Mathlib.Omega.{arith}
-use Rattle.element.specs.Form.{itemsOf}
+use Rattle.element.specs.code.Items.{itemsOf}
 use Rattle.walk.proofs.steps.held.Reads as held
 use Rattle.walk.proofs.run.octet_run.Reads as octet-run-reads
 use Rattle.walk.proofs.short.is_short.Reads as is-short-reads

@@ -1,0 +1,6 @@
+pub mod Values
+pub mod Worth
+pub mod Bytes
+pub mod Parts
+pub mod Commands
+pub mod Whole
