@@ -83,7 +83,8 @@ void message_fill(chz_message *m, const char *name, unsigned size)
     m->command = CHZ_PING;
     if (!strcmp(name, "con")) fill_con(m);
     if (!strcmp(name, "conRsp")) fill_con_rsp(m);
-    if (!strcmp(name, "ulData")) fill_ul_data(m, size);
+    if (!strcmp(name, "ulData") || !strcmp(name, "singles") || !strcmp(name, "wholes")) fill_ul_data(m, size);
+    if (!strcmp(name, "wholes")) m->ul_data.packet.eq_snr = 1;
     if (!strcmp(name, "attPrp")) fill_att_prp(m);
     if (!strcmp(name, "detRsp")) {
         m->command = CHZ_DET_RSP;
@@ -149,7 +150,18 @@ static void pack_con_rsp(msgpack_packer *pk, const chz_message *m)
     KEY("snScUuid"), octets(pk, m->con_rsp.sn_sc_uuid, 16);
 }
 
-static void pack_ul_data(msgpack_packer *pk, const chz_message *m)
+/* How the signal figures are sent. Inlined where this is known, so that only packing is counted and no choice. */
+enum figures { FLOATS_64, FLOATS_32, WHOLES };
+#define INLINED static inline __attribute__((always_inline))
+
+INLINED void figure(msgpack_packer *pk, double x, enum figures as)
+{
+    if (as == FLOATS_64) msgpack_pack_double(pk, x);
+    if (as == FLOATS_32) msgpack_pack_float(pk, (float)x);
+    if (as == WHOLES) msgpack_pack_int64(pk, (int64_t)x);
+}
+
+INLINED void pack_ul_data(msgpack_packer *pk, const chz_message *m, enum figures as)
 {
     const chz_packet *p = &m->ul_data.packet;
     start(pk, 14, "ulData", 6, m->op_id);
@@ -157,9 +169,9 @@ static void pack_ul_data(msgpack_packer *pk, const chz_message *m)
     KEY("rxTime"), msgpack_pack_uint64(pk, p->rx_time);
     KEY("rxDuration"), msgpack_pack_uint64(pk, p->rx_duration);
     KEY("packetCnt"), msgpack_pack_uint32(pk, p->packet_cnt);
-    KEY("snr"), msgpack_pack_double(pk, p->snr);
-    KEY("rssi"), msgpack_pack_double(pk, p->rssi);
-    KEY("eqSnr"), msgpack_pack_double(pk, p->eq_snr);
+    KEY("snr"), figure(pk, p->snr, as);
+    KEY("rssi"), figure(pk, p->rssi, as);
+    KEY("eqSnr"), figure(pk, p->eq_snr, as);
     KEY("profile"), text(pk, (const char *)p->profile, p->profile_len);
     KEY("userData"), octets(pk, m->data, m->ul_data.user_len);
     KEY("dlOpen"), truth(pk, m->ul_data.dl_open);
@@ -172,7 +184,7 @@ void message_pack(msgpack_packer *pk, const chz_message *m)
     switch (m->command) {
     case CHZ_CON: pack_con(pk, m, 0); return;
     case CHZ_CON_RSP: pack_con_rsp(pk, m); return;
-    case CHZ_UL_DATA: pack_ul_data(pk, m); return;
+    case CHZ_UL_DATA: pack_ul_data(pk, m, FLOATS_64); return;
     case CHZ_DET_RSP:
         start(pk, 3, "detRsp", 6, m->op_id);
         KEY("sign"), octets(pk, m->det_rsp.sign, 4);
@@ -211,6 +223,8 @@ size_t payload_make(uint8_t *payload, chz_message *m, const char *name, unsigned
     if (!strcmp(name, "pairs")) pack_pairs(&pk, size);
     else if (!strcmp(name, "nested")) pack_nested(&pk, size);
     else if (!strcmp(name, "con")) pack_con(&pk, m, 1);
+    else if (!strcmp(name, "singles")) pack_ul_data(&pk, m, FLOATS_32);
+    else if (!strcmp(name, "wholes")) pack_ul_data(&pk, m, WHOLES);
     else message_pack(&pk, m);
     need(made.size <= PAYLOAD_MOST, "payload too long");
     size_t len = made.size;

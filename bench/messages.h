@@ -10,7 +10,8 @@
 #define PAYLOAD_MOST 4096
 #define PAIRS_MOST 500
 
-/* Fills an image. The names are ping, con, detRsp, conRsp, ulData and attPrp; size is the bytes of user data. */
+/* Fills an image. The names are ping, con, detRsp, conRsp, ulData and attPrp, and for a ulData whose signal figures are packed as
+ * float 32 or as integers singles and wholes; size is the bytes of user data. */
 void message_fill(chz_message *m, const char *name, unsigned size);
 
 /* Packs the same message in the library's own order; attPrp isn't packed. */

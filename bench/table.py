@@ -8,6 +8,8 @@ READS = [
     ("ping", "ping", 0),
     ("con", "con", 0),
     ("ulData, 40 bytes of user data", "ulData", 40),
+    ("the same, signal figures as float 32", "singles", 40),
+    ("the same, signal figures as integers", "wholes", 40),
     ("ulData, 245 bytes of user data", "ulData", 245),
     ("ping with 500 unknown pairs", "pairs", 500),
 ]

@@ -144,7 +144,9 @@ static inline const char *chz_step_name(unsigned happened) {
 #define CHZ_DATA 245
 
 /* What det and ulData tell of a received packet. In this and the structs below, a field that may be absent has a mark has_...;
- * where that is 0, all bits of the field are 0. These marks, and fields that say yes or no, are 0 or 1. All else is 15. */
+ * where that is 0, all bits of the field are 0. These marks, and fields that say yes or no, are 0 or 1. All else is 15.
+ * A double is finite. A station may send it as a float or as an integer from -2^53 to 2^53, which is read as exactly that number,
+ * 0 as plus zero; other integers are 15. It is always written as float 64. */
 typedef struct chz_packet {
     uint64_t ep_eui;      /* meter */
     uint64_t rx_time;     /* nanoseconds since 1970, UTC: centre of the last subpacket */

@@ -64,7 +64,8 @@ def con(station, uuid, cut=None, **further):
 
 
 def heard(station, op_id, meter, counter, cut=None, **further):
-    say(station, "ulData", op_id, cut, epEui=meter, rxTime=1700000000000000000 + counter, packetCnt=counter, snr=12.5, rssi=-97.0,
+    # station 1 is of another maker, which sends whole numbers as integers
+    say(station, "ulData", op_id, cut, epEui=meter, rxTime=1700000000000000000 + counter, packetCnt=counter, snr=12.5, rssi=[-97.0, -97][station],
         userData=bytes([0x2F, counter & 255, 200]), dlOpen=False, responseExp=False, dlAck=False, **further)
 
 
@@ -99,7 +100,7 @@ def leaves(station, op_id, **further):
 def connect():
     remark("Two stations connect; one tells of itself in fields that are not kept.")
     con(0, 0xA0, vendor="Example", info={"bsEui": 1, "floors": [1, 2, 3]})
-    con(1, 0xA1, geoLocation=[52.5, 13.25, 34.0])
+    con(1, 0xA1, geoLocation=[52.5, 13.25, 34])
     say(0, "conCmp", 0)
     say(1, "conCmp", 0)
     say(0, "ping", 1)

@@ -26,7 +26,7 @@ void prepare_cases(void);
 int end_cases(void);
 
 /* The floating point mode of all that follows, beside the masks that every program has. */
-enum { DENORMALS_ARE_ZERO = 0x0040, FLUSH_TO_ZERO = 0x8000 };
+enum { DENORMALS_ARE_ZERO = 0x0040, FLUSH_TO_ZERO = 0x8000, ROUND_DOWN = 0x2000 };
 void set_mode(unsigned mode);
 
 #define JUDGE(answer, expected, ...) judge(answer, expected, (struct lent *const[]){ __VA_ARGS__, NULL })

@@ -1,7 +1,8 @@
 /* Makes the library's calls on the cases that come from standard input (stream.rs says how they are written) and compares the
  * answer and every lent byte with what the reference expects. Each call is made twice: in the floating point mode that a program
- * starts with, and with subnormal numbers taken for zero. Each buffer ends at a page that must not be touched and has marked
- * bytes before it; the second time an empty one is NULL. With a case's number as argument it also prints what that case hands over.
+ * starts with, and with subnormal numbers taken for zero and numbers rounded downward. Each buffer ends at a page that must not be
+ * touched and has marked bytes before it; the second time an empty one is NULL. With a case's number as argument it also prints
+ * what that case hands over.
  * The last line is 'N passed, M failed'. */
 #define _GNU_SOURCE
 #include <setjmp.h>
@@ -17,8 +18,8 @@
 #include "chozukpima.h"
 
 enum { MOST_ARGUMENTS = 9, SPACE = 1 << 16, BEFORE = 256, PAGE = 1 << 16, SHOWN = 20, PATIENCE = 5 };
-/* MXCSR as a program starts with it, and with "denormals are zero" and "flush to zero". */
-static const unsigned modes[] = { 0x1F80, 0x9FC0 };
+/* MXCSR as a program starts with it, and with "denormals are zero", "flush to zero" and rounding downward. */
+static const unsigned modes[] = { 0x1F80, 0xBFC0 };
 static unsigned mode;
 #define MARK 0xC5
 

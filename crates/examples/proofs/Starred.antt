@@ -1,7 +1,7 @@
 -- Every starred example holds of the definitions: what is answered to a payload is meant, and what is answered is computed. Assumes nothing.
 use mathlib.Core.{Path._≡_, Path.refl, Path.subst, List.List}
 use Prim.Native.Nat.{ℕ, _≤_}
-use lib.{Ieee.ofBits, Ieee.toBits, Ieee.fits as holds, ListN.length}
+use lib.{Ieee.ofBits, Ieee.ofInt, Ieee.toBits, Ieee.fits as holds, ListN.length}
 use borrow.Author.Tests.{le-ltb}
 use Rattle.octets.specs.{Choice.either, Size.isSize, Number.bigAt, Bytes.bigBytes, Bytes.littleBytes, Bytes.putAt}
 use Rattle.frame.specs.Frame.{identifier}
@@ -32,7 +32,7 @@ computed s d a e h =
     subst (Meant s d) f (answer-meant s d)
 
 pub all-hold : AllHold starred
-unfolding isSize readingAt placesOf notesOf keyAt cellsAt commandAt shallowAt cellAt elementOf times spanOf bodyOf faultOf headOf rowIn leadBytes bigAt bigBytes leafAt ofBits toBits bytesOf commands keys placeIn slotOf commandOf judge lists listIn bodyIn messageOf lentKeys dataOf gravest lookIn placeAmong littleBytes putAt identifier pairCount wholeTree textHead manyHead textTree mapTree nameAt bodySayings sayingsOf partIn within firstFault faultIn treeOf pairsFrom holds payloadFor frameOf framed written
+unfolding isSize readingAt placesOf notesOf keyAt cellsAt commandAt shallowAt cellAt elementOf times spanOf bodyOf faultOf headOf rowIn leadBytes bigAt bigBytes leafAt ofBits ofInt toBits bytesOf commands keys placeIn slotOf commandOf judge lists listIn bodyIn messageOf lentKeys dataOf gravest lookIn placeAmong littleBytes putAt identifier pairCount wholeTree textHead manyHead textTree mapTree nameAt bodySayings sayingsOf partIn within firstFault faultIn treeOf pairsFrom holds payloadFor frameOf framed written
 all-hold =
     let by : (s d : List ℕ) → lentSize ≤ length d → Meant s d _ = λ s d h. computed s d _ refl h in
-    (refl, (by _, (by _, (by _, (by _, (by _, (by _, (by _, (by _, ((refl, refl), (by _, (by _, ((refl, refl), (refl, (refl, tt)))))))))))))))
+    (refl, (by _, (by _, (by _, (by _, (by _, (by _, (by _, (by _, ((refl, refl), ((refl, refl), ((refl, refl), ((refl, refl), (refl, (refl, (refl, ((refl, refl), ((refl, refl), (by _, (by _, (by _, (by _, ((refl, refl), (refl, (refl, tt)))))))))))))))))))))))))

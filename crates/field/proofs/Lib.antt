@@ -1,5 +1,6 @@
 pub mod Shallow
 pub mod Numbers
+pub mod Reals
 pub mod Heads
 pub mod Flags
 pub mod Views

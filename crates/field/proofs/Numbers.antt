@@ -1,26 +1,25 @@
--- Numbers under a kind: each law in the shape of a need of the code. A whole below 0 is -1 - k, and its 64 bits are those of k turned.
+-- Whole numbers under a kind: each law in the shape of a need of the code. A whole below 0 is -1 - k, and its 64 bits are those of k turned.
 -- Assumes nothing.
 use mathlib.Core.Path.{_≡_, refl, sym, ap, _∙_}
 use mathlib.Core.{Bool.Bool, Bool.true, Bool.false, List.List}
-use Prim.Native.Nat.{ℕ, suc, _+_, _-_, _/_, _%_, _^_, _≤_, _<_}
+use Prim.Native.Nat.{ℕ, suc, _+_, _-_, _^_, _≤_, _<_}
 use native.Mathlib.Omega.{arith}
 use lib.{Dec.T, ListN.length, ListN.getD, Signed.ltZ, Signed.mag, Signed.nonNeg}
 use lib.IntN.{ℤ, pos, negsuc, natAbs, _-ℤ_}
-use lib.Ieee.{Float, binary64, ofBits, top, hid, ones}
+use lib.Ieee.{Float}
 use mir.Syntax.{w64}
 use mir.Val.{toZ, ofZ, SFits, Fits}
 use mir.ValLaws.{toZ-ofZ}
 use borrow.Author.Tests.{le-leb, lt-leb, le-ltb, ltb-true}
 use Rattle.element.specs.code.At.{leafAt}
 use Rattle.number.specs.declared.Number.{Number, the-variants.Signed, the-variants.Unsigned, the-variants.Real, the-variants.Not}
-use Rattle.number.specs.{Number.numberOf, Number.realBy, code.Body.given}
-use Rattle.number.proofs.Bodies.{given-is, real-none, real-is, no-nan}
-use Rattle.number.proofs.Reading.{past, small-is, unsigned-is, double-is, byte-wide}
+use Rattle.number.specs.{Number.numberOf, code.Body.given}
+use Rattle.number.proofs.Reading.{past, small-is, unsigned-is, byte-wide}
 use Rattle.octets.specs.Number.{bigAt, isThere, ifThere}
 use Rattle.octets.proofs.Ranges.{true-false}
 use Rattle.field.specs.declared.Judged.{Judged}
 use Rattle.field.specs.{Kind.Kind, Judge.wholeIn, Judge.judge, code.At.shallowAt}
-use Rattle.field.specs.code.Read.{badly, well, tellOf, readAt, realValueIn}
+use Rattle.field.specs.code.Read.{badly, well, tellOf, readAt}
 use Rattle.field.proofs.Shallow.{leaf-view}
 
 -- the number at a place is the leaf's
@@ -55,10 +54,10 @@ turned k =
     let e : suc k - 1 ≡ k = omega arith in
     simp (le-ltb (suc k) 1 (omega arith)) (ap pos e)
 
-abbrev back : ℤ → ℤ
+abbrev pub back : ℤ → ℤ
 back z = toZ w64 (ofZ w64 z)
 
-abbrev turn : ℤ → ℕ
+abbrev pub turn : ℤ → ℕ
 turn z = natAbs (back (negsuc 0 -ℤ back z))
 
 module _ (z : ℤ) (m : mag z < 2 ^ 63) where
@@ -106,18 +105,21 @@ module _ (z : ℤ) (m : mag z < 2 ^ 63) where
       let n = positive t in
       rw (same, n .1) (record { fits = omega arith })
 
+  pub below-turned : ltZ (back z) (pos 0) ≡ true → z ≡ negsuc (turn z)
+  below-turned t = negative t .1 ∙ ap negsuc (sym (ap natAbs (again t)))
+
+  pub above-plain : ltZ (back z) (pos 0) ≡ false → z ≡ pos (natAbs (back z))
+  above-plain t = positive t .1 ∙ ap pos (sym (ap natAbs (same ∙ positive t .1)))
+
   module _ (r : Judged) (lo hi : ℕ) (x : Number) (e : x ≡ Signed z) where
+    by-sign : (y : ℤ) → z ≡ y → tellOf (wholeIn lo hi (Signed y)) ≡ tellOf (wholeIn lo hi x)
+    by-sign y t = sym (ap (λ (n : Number). tellOf (wholeIn lo hi n)) (e ∙ ap Signed t))
+
     pub whole-below : ltZ (back z) (pos 0) ≡ true → r ≡ tellOf (wholeIn lo 0 (Signed (negsuc (turn z)))) → r ≡ tellOf (wholeIn lo hi x)
-    whole-below t q =
-        let n = negative t in
-        q ∙ ap (λ (k : ℕ). tellOf (wholeIn lo 0 (Signed (negsuc k)))) (ap natAbs (again t))
-        ∙ sym (ap (λ (y : Number). tellOf (wholeIn lo hi y)) (e ∙ ap Signed (n .1)))
+    whole-below t q = q ∙ by-sign (negsuc (turn z)) (below-turned t)
 
     pub whole-above : ltZ (back z) (pos 0) ≡ false → r ≡ tellOf (wholeIn 0 hi (Unsigned (natAbs (back z)))) → r ≡ tellOf (wholeIn lo hi x)
-    whole-above t q =
-        let n = positive t in
-        q ∙ ap (λ (y : ℤ). tellOf (wholeIn 0 hi (Unsigned (natAbs y)))) (same ∙ n .1)
-        ∙ sym (ap (λ (y : Number). tellOf (wholeIn lo hi y)) (e ∙ ap Signed (n .1)))
+    whole-above t q = q ∙ by-sign (pos (natAbs (back z))) (above-plain t)
 
 module _ (r : Judged) (lo hi : ℕ) (x : Number) where
   pub whole-unsigned : (n : ℕ) → x ≡ Unsigned n → r ≡ tellOf (wholeIn 0 hi (Unsigned n)) → r ≡ tellOf (wholeIn lo hi x)
@@ -131,7 +133,9 @@ module _ (r : Judged) (lo hi : ℕ) (x : Number) where
   unfolding tellOf
   whole-not e q = q ∙ sym (rw e)
 
-pub ruleset wholes = (turn-fits, turn-sign, turn-width, plain-sign, plain-width, whole-below, whole-above, whole-unsigned, whole-real, whole-not)
+pub ruleset turns = (turn-fits, turn-sign, turn-width, plain-sign, plain-width)
+
+pub ruleset wholes = (whole-below, whole-above, whole-unsigned, whole-real, whole-not)
 
 -- a number, where its bytes are there
 module _ (r : Judged) (there : Bool) (n : ℕ) where
@@ -143,57 +147,16 @@ module _ (r : Judged) (there : Bool) (n : ℕ) where
   unfolding given tellOf
   given-no-whole hi t q = rw t q
 
-  pub given-no-real : there ≡ false → r ≡ badly → r ≡ tellOf (realValueIn (given there (realBy binary64 n)))
-  unfolding given tellOf
-  given-no-real t q = rw t q
-
-  by-given : (x : Number) → there ≡ true → x ≡ realBy binary64 n → tellOf (realValueIn x) ≡ tellOf (realValueIn (given there (realBy binary64 n)))
-  by-given x t e = ap (λ (y : Number). tellOf (realValueIn y)) (given-is there x (realBy binary64 n) t e)
-
-  pub given-infinite : there ≡ true → n % top binary64 / hid binary64 ≡ ones binary64 → r ≡ badly → r ≡ tellOf (realValueIn (given there (realBy binary64 n)))
-  unfolding tellOf
-  given-infinite t e q = q ∙ by-given Not t (real-none binary64 n e)
-
-pub given-figure : (there : Bool) (n : ℕ) → there ≡ true → (n % top binary64 / hid binary64 ≡ ones binary64 → ⊥)
-    → record { state = 0; word = 0; figure = ofBits binary64 n } ≡ tellOf (realValueIn (given there (realBy binary64 n)))
-unfolding tellOf
-given-figure there n t e = by-given badly there n (Real (ofBits binary64 n)) t (real-is binary64 n e)
-
-pub ruleset givens = (given-upto, given-no-whole, given-no-real, given-infinite, given-figure, no-nan)
-
--- a finite real, by the number's variant
-module _ (x : Number) where
-  pub figure-is : (f : Float) → x ≡ Real f → record { state = 0; word = 0; figure = f } ≡ tellOf (realValueIn x)
-  unfolding tellOf
-  figure-is f e = sym (rw e)
-
-  module _ (r : Judged) (q : r ≡ badly) where
-    pub figure-signed : (z : ℤ) → x ≡ Signed z → r ≡ tellOf (realValueIn x)
-    unfolding tellOf
-    figure-signed z e = q ∙ sym (rw e)
-
-    pub figure-unsigned : (n : ℕ) → x ≡ Unsigned n → r ≡ tellOf (realValueIn x)
-    unfolding tellOf
-    figure-unsigned n e = q ∙ sym (rw e)
-
-    pub figure-not : x ≡ Not → r ≡ tellOf (realValueIn x)
-    unfolding tellOf
-    figure-not e = q ∙ sym (rw e)
-
-pub ruleset figures = (figure-is, figure-signed, figure-unsigned, figure-not)
+pub ruleset givens = (given-upto, given-no-whole)
 
 -- the element at a place, by the number there
 module _ (s : List ℕ) (at : ℕ) (x : Number) (e : x ≡ numberOf (leafAt s at)) (r : Judged) where
-  found : x ≡ numberOf (shallowAt s at)
+  pub found : x ≡ numberOf (shallowAt s at)
   found = e ∙ sym (number-there s at)
 
   pub whole-is : (lo hi : ℕ) → r ≡ tellOf (wholeIn lo hi x) → r ≡ readAt (Kind.wholes lo hi) s at
   unfolding readAt judge
   whole-is lo hi q = q ∙ ap (λ (y : Number). tellOf (wholeIn lo hi y)) found
-
-  pub real-at-is : r ≡ tellOf (realValueIn x) → r ≡ readAt Kind.reals s at
-  unfolding readAt judge
-  real-at-is q = q ∙ ap (λ (y : Number). tellOf (realValueIn y)) found
 
 -- by its lead byte
 module _ (s : List ℕ) (at : ℕ) (r : Judged) where
@@ -204,11 +167,6 @@ module _ (s : List ℕ) (at : ℕ) (r : Judged) where
 
     pub whole-small : at < length s → getD s at 0 < 0x80 → r ≡ tellOf (wholeIn 0 hi (Unsigned (getD s at 0))) → r ≡ readAt (Kind.wholes lo hi) s at
     whole-small there h q = whole-is s at (Unsigned (getD s at 0)) (small-is s at there h) r lo hi q
-
-  pub real-wide : (t : Bool) (n : ℕ) → at < length s → getD s at 0 ≡ 0xCB → t ≡ isThere (length s) (at + 1) 8
-      → n ≡ ifThere s (at + 1) 8 (bigAt s (at + 1) 8) → r ≡ tellOf (realValueIn (given t (realBy binary64 n))) → r ≡ readAt Kind.reals s at
-  real-wide t n there b e f q =
-      real-at-is s at (given t (realBy binary64 n)) (double-is s at (given t (realBy binary64 n)) t n there b e f refl) r q
 
 any-least : (lo hi : ℕ) (t : Bool) (n : ℕ) → wholeIn 0 hi (given t (Unsigned n)) ≡ wholeIn lo hi (given t (Unsigned n))
 unfolding given
@@ -222,4 +180,4 @@ pub whole-wide : (k : ℕ) → k < 4 → (s : List ℕ) (at : ℕ) (r : Judged) 
 whole-wide k h s at r lo hi t n there b e f q =
     whole-is s at (given t (Unsigned n)) (unsigned-is k h s at (given t (Unsigned n)) t n there b e f refl) r lo hi (q ∙ ap tellOf (any-least lo hi t n))
 
-pub ruleset numbers = (byte-wide, whole-past, whole-small, whole-is, real-at-is, real-wide, arith)
+pub ruleset numbers = (byte-wide, whole-past, whole-small, whole-is, arith)

@@ -1,72 +1,31 @@
--- Positions: three finite reals behind each other, and no fewer or more. Each law in the shape of a need of the code. Assumes nothing.
+-- Positions: three reals behind each other, and no fewer or more. Each law in the shape of a need of the code. Assumes nothing.
 use mathlib.Core.Path.{_≡_, refl, sym, ap, _∙_}
 use mathlib.Core.Bool.{Bool, true, false, _&&_}
 use mathlib.Core.{List.List, List.[], List._∷_, Option.Option, Option.some, Option.none}
-use Prim.Native.Nat.{ℕ, zero, suc, _+_, _-_, _/_, _%_, _≤_, _<_}
-use native.Mathlib.Omega.{arith}
-use lib.{Dec.leb, IntN.ℤ, ListN.length, ListN.getD}
-use lib.Ieee.{Float, binary64, ofBits, top, hid, ones}
-use borrow.Author.Tests.{le-leb, lt-leb}
-use Rattle.octets.specs.{Choice.either, Number.bigAt, Number.ifThere}
+use Prim.Native.Nat.{ℕ, zero, suc}
+use lib.Ieee.{Float}
+use Rattle.octets.specs.Choice.{either}
 use Rattle.element.specs.{Form.spanOf, Meaning.Elements, code.At.leafAt}
-use Rattle.number.specs.declared.Number.{Number, the-variants.Signed, the-variants.Unsigned, the-variants.Real, the-variants.Not}
-use Rattle.number.specs.{Number.numberOf, Number.realBy, code.Body.given}
-use Rattle.number.proofs.Bodies.{given-is, real-none, real-is, no-nan}
-use Rattle.number.proofs.Reading.{double-is}
-use Rattle.walk.specs.code.Short.{twoTo}
-use Rattle.field.specs.declared.{Extent.Extent, Located.Located, Measure.Measure}
+use Rattle.number.specs.Number.{numberOf}
+use Rattle.field.specs.declared.{Extent.Extent, Judged.Judged, Located.Located, Measure.Measure}
 use Rattle.field.specs.{Kind.Kind, code.At.endOf, code.At.leavesFrom, code.At.shallowAt, Cell.located, code.Read.unlocated, code.Read.locatedBy}
 use Rattle.field.specs.{code.Extent.partsBy, code.Extent.Lists}
 use Rattle.field.specs.Judge.{onSome, realIn, realsIn, threeOf, judge}
 use Rattle.field.specs.code.Item.{no-measure, measureBy, measureAt, realsFrom}
-use Rattle.field.proofs.Heads.{number-ends}
+use Rattle.field.specs.code.Read.{readAt}
+use Rattle.field.proofs.Reals.{read-some, read-none}
 
 -- one real
-module _ (s : List ℕ) (at : ℕ) (x : Number) (e : x ≡ numberOf (leafAt s at)) where
-  by-measure : (y : Number) → x ≡ y → measureBy (realIn y) (endOf at (spanOf s at)) ≡ measureAt s at
+module _ (s : List ℕ) (at : ℕ) (real : Judged) (e : real ≡ readAt Kind.reals s at) where
+  pub measure-there : (next : ℕ) → real .state ≡ 0 → next ≡ endOf at (spanOf s at) → record { there = true; x = real .figure; next = next } ≡ measureAt s at
   unfolding measureAt
-  by-measure y q = ap (λ (z : Number). measureBy (realIn z) (endOf at (spanOf s at))) (sym q ∙ e)
+  measure-there next g p = ap (measureBy (some (real .figure))) p ∙ sym (rw (read-some s at real e g))
 
-  pub measure-real : (f : Float) (next : ℕ) → x ≡ Real f → next ≡ endOf at (spanOf s at) → record { there = true; x = f; next = next } ≡ measureAt s at
-  measure-real f next q p = ap (λ (n : ℕ). measureBy (some f) n) p ∙ by-measure (Real f) q
+  pub measure-none : (r : Measure) → (real .state ≡ 0 → ⊥) → r ≡ no-measure → r ≡ measureAt s at
+  unfolding measureAt
+  measure-none r g q = q ∙ sym (rw (read-none s at real e g))
 
-  module _ (r : Measure) (n : r ≡ no-measure) where
-    pub measure-signed : (z : ℤ) → x ≡ Signed z → r ≡ measureAt s at
-    measure-signed z q = n ∙ by-measure (Signed z) q
-
-    pub measure-unsigned : (k : ℕ) → x ≡ Unsigned k → r ≡ measureAt s at
-    measure-unsigned k q = n ∙ by-measure (Unsigned k) q
-
-    pub measure-not : x ≡ Not → r ≡ measureAt s at
-    measure-not q = n ∙ by-measure Not q
-
-pub ruleset measures = (measure-real, measure-signed, measure-unsigned, measure-not)
-
--- a float 64
-module _ (s : List ℕ) (at : ℕ) (there : at < length s) (b : getD s at 0 ≡ 0xCB) where
-  pub double-cut : (r : Measure) → r ≡ no-measure → length s - at < 9 → r ≡ measureAt s at
-  unfolding given
-  double-cut r q h =
-      let l : leb (at + 1 + 8) (length s) ≡ false = lt-leb (at + 1 + 8) (length s) (omega arith) in
-      measure-not s at Not (double-is s at Not false 0 there b (simp l) (simp l) refl) r q refl
-
-  module _ (n : ℕ) (h : 9 ≤ length s - at) (f : n ≡ ifThere s (at + 1) 8 (bigAt s (at + 1) 8)) where
-    real-here : (x : Number) → x ≡ realBy binary64 n → x ≡ numberOf (leafAt s at)
-    real-here x e =
-        let l : leb (at + 1 + 8) (length s) ≡ true = le-leb (at + 1 + 8) (length s) (omega arith) in
-        double-is s at x true n there b (simp l) f (given-is true x (realBy binary64 n) refl e)
-
-    pub double-infinite : (r : Measure) → r ≡ no-measure → n % top binary64 / hid binary64 ≡ ones binary64 → r ≡ measureAt s at
-    double-infinite r q e = measure-not s at Not (real-here Not (real-none binary64 n e)) r q refl
-
-    pub double-real : (n % top binary64 / hid binary64 ≡ ones binary64 → ⊥) → record { there = true; x = ofBits binary64 n; next = at + 9 } ≡ measureAt s at
-    double-real e =
-        let w : 8 ≡ twoTo (getD s at 0 % 4) = rw b in
-        let z : at + 9 ≡ at + 1 + 8 = omega arith in
-        measure-real s at (Real (ofBits binary64 n)) (real-here (Real (ofBits binary64 n)) (real-is binary64 n e)) (ofBits binary64 n) (at + 9) refl
-        (z ∙ number-ends s at 8 there (omega arith) (omega arith) w (omega arith))
-
-pub ruleset doubles = (double-cut, double-infinite, double-real, no-nan, arith)
+pub ruleset measures = (measure-there, measure-none)
 
 -- three of them
 abbrev nest : Option Float → Option Float → Option Float → Option (List Float)

@@ -1,8 +1,9 @@
 -- What an element is worth under a kind: its value, or none where it is invalid (document 01's 15).
-use Prim.Native.Nat.{ℕ, suc}
+use Prim.Native.Nat.{ℕ, suc, _^_}
 use mathlib.Core.Bool.{Bool, true, false, _&&_}
 use mathlib.Core.{List.List, List.[], List._∷_, Option.Option, Option.some, Option.none}
-use lib.{Dec.leb, IntN.ℤ, IntN.pos, IntN.negsuc, ListN.length, Ieee.Float}
+use lib.{Dec.leb, IntN.ℤ, IntN.pos, IntN.negsuc, ListN.length}
+use lib.Ieee.{Float, binary64, ofInt}
 use Rattle.octets.specs.Choice.{either}
 use Rattle.element.specs.{Meaning.Element, Meaning.Elements, Meaning.Elements.no-more, Meaning.Elements.more}
 use Rattle.element.specs.Meaning.Element.{null, truth, whole, single, double, text, octets, typed, list, table}
@@ -28,10 +29,14 @@ wholeIn lo hi (Unsigned n) = when (leb n hi) (Value.number (pos n))
 wholeIn lo hi (Real x) = none
 wholeIn lo hi Not = none
 
--- a finite real; whole numbers are none
+-- a whole number from −2^53 to 2^53 is worth the real of exactly that number; 0 is plus zero
+abbrev pub wholeReal : ℤ → Option Float
+wholeReal z = either (inRange (2 ^ 53) (2 ^ 53) z) (λ _. some (ofInt binary64 z)) (λ _. none)
+
+-- a finite real, or such a whole number
 abbrev pub realIn : Number → Option Float
-realIn (Signed z) = none
-realIn (Unsigned n) = none
+realIn (Signed z) = wholeReal z
+realIn (Unsigned n) = wholeReal (pos n)
 realIn (Real x) = some x
 realIn Not = none
 

@@ -6,10 +6,10 @@ use lib.{IntN.ℤ, Ieee.Float}
 pub data Kind : Type 0 where
   -- a whole number from minus the first to the second
   wholes : ℕ → ℕ → Kind
-  -- a finite real
+  -- a real: a finite float, or a whole number from −2^53 to 2^53
   reals : Kind
   flags : Kind
-  -- an array of three finite reals
+  -- an array of three reals
   positions : Kind
   -- an array of so many to so many numbers from 0 to 255
   arrays : ℕ → ℕ → Kind

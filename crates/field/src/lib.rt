@@ -5,6 +5,7 @@ mod head;
 mod into;
 mod locate;
 mod map;
+mod real;
 mod text;
 mod version;
 mod whole;
@@ -70,7 +71,7 @@ enum Octet {
     Unfit,
 }
 
-// A finite real of an array, if it is one, and the place behind it.
+// A real of an array, if it is one, and the place behind it.
 struct Measure {
     there: bool,
     x: f64,
@@ -110,7 +111,7 @@ pub fn real_cell(s: &[u8], p: usize) -> Judged
     if p < SOMEWHERE {
         return absent(p);
     }
-    whole::real_at(s, p)
+    real::real_at(s, p)
 }
 
 pub fn flag_cell(s: &[u8], p: usize) -> Judged

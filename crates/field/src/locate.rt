@@ -1,4 +1,4 @@
-// Positions: an array of three finite reals.
+// Positions: an array of three reals.
 use crate::GOOD;
 use crate::INVALID;
 use crate::Located;
@@ -6,10 +6,8 @@ use crate::Measure;
 use crate::Position;
 use crate::array::array_at;
 use crate::head::number_end;
-use number::Number;
+use crate::real::real_at;
 ghost use mathlib.Core.Path.{_≡_};
-ghost use Prim.Native.Nat.{_<_};
-ghost use lib.ListN.{length, getD};
 ghost use Rattle.field.specs.{Kind.Kind, Judge.onSome, Judge.threeOf, Judge.judge, code.At.shallowAt, code.Read.unlocated, code.Read.locatedBy};
 ghost use Rattle.field.specs.{code.Item.measureAt, code.Item.realsFrom, code.Item.no-measure};
 
@@ -62,49 +60,19 @@ pub fn unlocated(state: u8) -> Located
     }
 }
 
-// A finite real and the place behind it. Most are of eight bytes, and are read with no call of the number reader.
+// A real and the place behind it.
 fn measure_at(s: &[u8], at: usize) -> Measure
     ensures { λ r. ⌜ r ≡ measureAt (now (s .entry)) at ⌝ }
 {
-    if at < s.len() {
-        if s[at] == 0xCB {
-            return double_at(s, at);
-        }
-    }
-    any_at(s, at)
-}
-
-// A float 64: its eight bytes are there, and its exponent's field is not all ones.
-fn double_at(s: &[u8], at: usize) -> Measure
-    requires { ⌜ (at < length (now s)) × (getD (now s) at 0 ≡ 0xCB) ⌝ }
-    ensures { λ r. ⌜ r ≡ measureAt (now (s .entry)) at ⌝ }
-{
-    if s.len() - at < 9 {
-        return no_measure();
-    }
-    let n = octets::big_at(s, at + 1, 8);
-    if n % 0x8000_0000_0000_0000 / 0x10_0000_0000_0000 == 0x7FF {
-        return no_measure();
-    }
-    Measure {
-        there: true,
-        x: f64::from_bits(n),
-        next: at + 9,
-    }
-}
-
-fn any_at(s: &[u8], at: usize) -> Measure
-    ensures { λ r. ⌜ r ≡ measureAt (now (s .entry)) at ⌝ }
-{
-    match number::number_at(s, at) {
-        Number::Signed(_) => no_measure(),
-        Number::Unsigned(_) => no_measure(),
-        Number::Real(x) => Measure {
+    let real = real_at(s, at);
+    if real.state == GOOD {
+        Measure {
             there: true,
-            x,
+            x: real.figure,
             next: number_end(s, at),
-        },
-        Number::Not => no_measure(),
+        }
+    } else {
+        no_measure()
     }
 }
 

@@ -1,4 +1,4 @@
-// Numbers: whole ones within bounds, and finite reals.
+// Whole numbers within bounds.
 use crate::GOOD;
 use crate::INVALID;
 use crate::Judged;
@@ -7,10 +7,10 @@ use number::number_at;
 use octets::big_at;
 use octets::is_there;
 ghost use mathlib.Core.Path.{_≡_};
-ghost use lib.{Ieee.binary64, IntN.negsuc};
-ghost use Rattle.number.specs.{Number.realBy, code.Body.given};
+ghost use lib.IntN.{negsuc};
+ghost use Rattle.number.specs.code.Body.{given};
 ghost use Rattle.field.specs.{Kind.Kind, Judge.wholeIn};
-ghost use Rattle.field.specs.code.Read.{badly, well, tellOf, readAt, realValueIn};
+ghost use Rattle.field.specs.code.Read.{badly, well, tellOf, readAt};
 
 // An invalid field.
 pub fn bad() -> Judged
@@ -54,51 +54,6 @@ pub fn whole_at(s: &[u8], at: usize, lo: u64, hi: u64) -> Judged
         };
     }
     bad()
-}
-
-// A finite real. Most are of eight bytes.
-pub fn real_at(s: &[u8], at: usize) -> Judged
-    ensures { λ r. ⌜ r ≡ readAt Kind.reals (now (s .entry)) at ⌝ }
-{
-    let len = s.len();
-    if at < len {
-        if s[at] == 0xCB {
-            return given_real(is_there(len, at + 1, 8), big_at(s, at + 1, 8));
-        }
-    }
-    real_in(number_at(s, at))
-}
-
-// A finite real of eight bytes n, where they are there: its exponent's field is not all ones.
-fn given_real(there: bool, n: u64) -> Judged
-    ensures { λ r. ⌜ r ≡ tellOf (realValueIn (given there (realBy binary64 n))) ⌝ }
-{
-    if there {
-        if n % 0x8000_0000_0000_0000 / 0x10_0000_0000_0000 == 0x7FF {
-            return bad();
-        }
-        return Judged {
-            state: GOOD,
-            word: 0,
-            figure: f64::from_bits(n),
-        };
-    }
-    bad()
-}
-
-fn real_in(n: Number) -> Judged
-    ensures { λ r. ⌜ r ≡ tellOf (realValueIn n) ⌝ }
-{
-    match n {
-        Number::Signed(_) => bad(),
-        Number::Unsigned(_) => bad(),
-        Number::Real(x) => Judged {
-            state: GOOD,
-            word: 0,
-            figure: x,
-        },
-        Number::Not => bad(),
-    }
 }
 
 fn whole_in(n: Number, lo: u64, hi: u64) -> Judged

@@ -3,24 +3,25 @@
 use mathlib.Core.Path.{_≡_, refl, ap, _∙_}
 use mathlib.Core.Bool.{true, false}
 use mathlib.Core.List.{List, [], _∷_, _++_}
-use Prim.Native.{Nat.ℕ, Nat._+_, Nat._≤_, String.String}
-use lib.{Dec.lit<, Ieee.fin, Ieee.ofBits, IntN.pos, ListN.length, ListN.take, ListN.drop}
+use Prim.Native.{Nat.ℕ, Nat.zero, Nat.suc, Nat._+_, Nat._≤_, String.String}
+use lib.{Dec.lit<, Dec.lit≤, IntN.pos, IntN.negsuc, ListN.length, ListN.take, ListN.drop, ListN.replicate}
+use lib.Ieee.{Float, fin, ofBits, ofInt}
 use Rattle.octets.specs.Number.{bigAt}
 use Rattle.element.specs.{Lead.leadBytes, Lead.rowIn, Lead.headOf, Tree.Tree.leaf, Tree.Tree.array, Tree.Tree.map, Tree.Trees.none, Tree.Trees.some}
 use Rattle.element.specs.{Tree.Pairs.end, Tree.Pairs.pair, Meaning.meaningOf, Meaning.meaningOfPairs}
 use Rattle.element.specs.Tree.{Tree, Trees, Pairs, bytesOf, countOf, depthOf, partCount, pairCount}
 use Rattle.names.specs.Names.{bytes, commands, placeIn, nameAt, commandOf}
-use Rattle.field.specs.{Judge.octetsIn, Judge.judge, Cell.zero64}
-use Rattle.message.specs.Fields.{lists, listIn}
+use Rattle.field.specs.{Kind.Kind, Judge.octetsIn, Judge.realsIn, Judge.judge, Version.cutAtDots, Version.digitsFrom, Version.versionOf, Cell.zero64, Cell.located}
+use Rattle.message.specs.Fields.{lists, listIn, fieldsOf}
 use Rattle.message.specs.Reading.{saidFrom, cellsOf, gravest, lookIn, placeAmong}
 use Rattle.record.specs.declared.{Body.Body, Message.Message}
 use Rattle.record.specs.Record.{bodyIn, messageOf, lentKeys, dataOf}
 use Rattle.record.specs.{Reading.Reading, Reading.readingAs, Reading.readingOf, code.Places.answerAt}
 use Rattle.record.specs.Meant.{Answered, answerOf, lentSize, Meant}
 use Rattle.record.proofs.Answered.{answer-meant}
-use Rattle.promises.specs.Steady.{Rearranged, Changed, Known, Carries, Alike}
-use Rattle.promises.proofs.{Steady.steady, Tested.isLawful, Tested.isPayload, Tested.says}
-use Rattle.promises.proofs.Moves.{behind, turned, moved, put-in, turn, respelled}
+use Rattle.promises.specs.Steady.{SameReal, SameReals, StandsFor, Rearranged, Changed, Known, Carries, Alike}
+use Rattle.promises.proofs.{Steady.steady, Tested.isLawful, Tested.isPayload, Tested.says, Tested.of-kind}
+use Rattle.promises.proofs.Moves.{behind, turned, before, moved, put-in, inside, turn, respelled}
 
 -- all that the theorem asks of two payloads
 pub record Instance (c : ℕ) (s t : List ℕ) (ps qs : Pairs) : Type 0 where
@@ -175,14 +176,14 @@ rssi = leaf 0xCA [] (0xC2 ∷ 0xC2 ∷ 0x00 ∷ 0x00 ∷ [])
 abbrev user : Trees
 user = some (lone 0x0A) (some (lone 0x0B) (some (lone 0x0C) none))
 
--- its pairs but for format
-abbrev pub uplink-bare : Pairs
-uplink-bare = pairs
+-- its pairs but for format, with any counter and any rssi
+abbrev pub uplink-telling : Tree → Tree → Pairs
+uplink-telling counter rssi = pairs
     ((text "command", text "ulData") ∷
     (text "opId", lone 2) ∷
     (text "epEui", station) ∷
     (text "rxTime", time) ∷
-    (text "packetCnt", lone 5) ∷
+    (text "packetCnt", counter) ∷
     (text "snr", snr) ∷
     (text "rssi", rssi) ∷
     (text "userData", array 0x93 [] user) ∷
@@ -190,11 +191,14 @@ uplink-bare = pairs
     (text "responseExp", lone 0xC2) ∷
     (text "dlAck", lone 0xC2) ∷ [])
 
+abbrev pub uplink-bare : Pairs
+uplink-bare = uplink-telling (lone 5) rssi
+
 abbrev pub uplink : Pairs
 uplink = behind 8 (text "format") (lone 0) uplink-bare
 
 -- the same in the opposite order, with the head, a key, a text, two integers and an array in longer forms, with a map under the strange key
--- `maker` that holds an `epEui`, and with no format
+-- `maker` that holds an `epEui`, with snr and rssi as whole numbers, and with no format
 abbrev pub U-changed : List ℕ
 U-changed = 0xDE ∷ 0x00 ∷ 0x0C ∷ []
     ++ 0xA5 ∷ bytes "dlAck" ++ 0xC2 ∷ []
@@ -202,8 +206,8 @@ U-changed = 0xDE ∷ 0x00 ∷ 0x0C ∷ []
     ++ 0xA6 ∷ bytes "dlOpen" ++ 0xC3 ∷ []
     ++ 0xA5 ∷ bytes "maker" ++ 0x81 ∷ 0xA5 ∷ bytes "epEui" ++ 0x09 ∷ []
     ++ 0xA8 ∷ bytes "userData" ++ 0xDC ∷ 0x00 ∷ 0x03 ∷ 0x0A ∷ 0x0B ∷ 0x0C ∷ []
-    ++ 0xA4 ∷ bytes "rssi" ++ 0xCA ∷ 0xC2 ∷ 0xC2 ∷ 0x00 ∷ 0x00 ∷ []
-    ++ 0xD9 ∷ 0x03 ∷ bytes "snr" ++ 0xCA ∷ 0x41 ∷ 0x30 ∷ 0x00 ∷ 0x00 ∷ []
+    ++ 0xA4 ∷ bytes "rssi" ++ 0xD0 ∷ 0x9F ∷ []
+    ++ 0xD9 ∷ 0x03 ∷ bytes "snr" ++ 0x0B ∷ []
     ++ 0xA9 ∷ bytes "packetCnt" ++ 0xCD ∷ 0x00 ∷ 0x05 ∷ []
     ++ 0xA6 ∷ bytes "rxTime" ++ 0xCE ∷ 0x65 ∷ 0x00 ∷ 0x00 ∷ 0x00 ∷ []
     ++ 0xA5 ∷ bytes "epEui" ++ 0xCF ∷ 0x00 ∷ 0x01 ∷ 0x02 ∷ 0x03 ∷ 0x04 ∷ 0x05 ∷ 0x06 ∷ 0x07 ∷ []
@@ -213,22 +217,51 @@ U-changed = 0xDE ∷ 0x00 ∷ 0x0C ∷ []
 abbrev maker : Tree
 maker = map 0x81 [] (pairs ((text "epEui", lone 9) ∷ []))
 
-abbrev pub uplink-changed : Pairs
-uplink-changed = pairs
+-- the pairs in front of the signal figures, and behind them
+abbrev front : Pairs
+front = pairs
     ((text "dlAck", lone 0xC2) ∷
     (text "responseExp", lone 0xC2) ∷
     (text "dlOpen", lone 0xC3) ∷
     (text "maker", maker) ∷
-    (text "userData", array 0xDC (0x00 ∷ 0x03 ∷ []) user) ∷
-    (text "rssi", rssi) ∷
-    (wideText "snr", snr) ∷
-    (text "packetCnt", leaf 0xCD [] (0x00 ∷ 0x05 ∷ [])) ∷
+    (text "userData", array 0xDC (0x00 ∷ 0x03 ∷ []) user) ∷ [])
+
+abbrev rear : Pairs
+rear = pairs
+    ((text "packetCnt", leaf 0xCD [] (0x00 ∷ 0x05 ∷ [])) ∷
     (text "rxTime", time) ∷
     (text "epEui", station) ∷
     (text "opId", leaf 0xD1 [] (0x00 ∷ 0x02 ∷ [])) ∷
     (text "command", wideText "ulData") ∷ [])
 
--- format to the front and out, the others turned round, `maker` put in behind three, and the widths
+abbrev uplink-turned : Tree → Tree → Pairs
+uplink-turned rssi snr = before front (pair (text "rssi") rssi (pair (wideText "snr") snr rear))
+
+-- −97 and 11 as whole numbers
+abbrev pub whole-rssi : Tree
+whole-rssi = leaf 0xD0 [] (0x9F ∷ [])
+
+abbrev pub uplink-changed : Pairs
+uplink-changed = uplink-turned whole-rssi (lone 0x0B)
+
+-- the floats are exactly these numbers
+rssi-stands : StandsFor Kind.reals (meaningOf whole-rssi) (meaningOf rssi)
+unfolding meaningOf rowIn leadBytes bigAt ofBits
+rssi-stands = StandsFor.real (SameReal.float32 {z = negsuc 96} {n = 0xC2C2_0000} (lit≤ tt, (refl, refl)))
+
+snr-stands : StandsFor Kind.reals (meaningOf (lone 0x0B)) (meaningOf snr)
+unfolding meaningOf rowIn leadBytes bigAt ofBits
+snr-stands = StandsFor.real (SameReal.float32 {z = pos 11} {n = 0x4130_0000} (lit≤ tt, (refl, refl)))
+
+-- the signal figures, from floats to whole numbers
+figures-change : Rearranged 7 (uplink-turned rssi snr) uplink-changed
+unfolding rowIn leadBytes meaningOf lists listIn
+figures-change =
+    inside 7 front (Rearranged.next
+    (Rearranged.back (Rearranged.counted (of-kind Kind.reals (fieldsOf 7) (bytes "rssi") tt) rssi-stands))
+    (Rearranged.behind (Rearranged.back (Rearranged.counted (of-kind Kind.reals (fieldsOf 7) (bytes "snr") tt) snr-stands))))
+
+-- format to the front and out, the others turned round, `maker` put in behind three, the widths, and the signal figures
 uplink-change : Changed 7 uplink uplink-changed
 unfolding rowIn leadBytes bigAt meaningOf saidFrom lists listIn
 uplink-change =
@@ -237,7 +270,8 @@ uplink-change =
     (Changed.rearranged
     (Rearranged.next (turn 7 uplink-bare)
     (Rearranged.next (put-in 7 3 (text "maker") maker (turned uplink-bare end) tt)
-    (respelled 7 (behind 3 (text "maker") maker (turned uplink-bare end)) uplink-changed refl)))))
+    (Rearranged.next (respelled 7 (behind 3 (text "maker") maker (turned uplink-bare end)) (uplink-turned rssi snr) refl)
+    figures-change)))))
 
 pub changed : Instance 7 U U-changed uplink uplink-changed
 unfolding isPayload isLawful headOf rowIn leadBytes bytesOf countOf depthOf partCount pairCount bigAt meaningOf saidFrom commandOf placeIn commands
@@ -251,9 +285,9 @@ changed = record {
 pub changed-alike : (d : List ℕ) (r q : Answered) → Meant U d r → Meant U-changed d q → Alike r q
 changed-alike = alike 7 U U-changed uplink uplink-changed changed
 
--- the nested epEui says nothing, and the format is 0 whether given or not
-abbrev pub uplink-with : ℕ → Message
-uplink-with format = record {
+-- the record, by its rssi and its format
+abbrev pub uplink-heard : Float → ℕ → Message
+uplink-heard rssi format = record {
   «op_id» = pos 2;
   body = Body.UlData (record {
     packet = record {
@@ -261,7 +295,7 @@ uplink-with format = record {
       «rx_time» = 0x6500_0000;
       «rx_duration» = record { here = false; value = 0 };
       «packet_cnt» = 5;
-      signal = record { snr = fin false 11 (pos 0); rssi = fin true 97 (pos 0); «eq_snr» = zero64; «has_eq_snr» = false };
+      signal = record { snr = fin false 11 (pos 0); rssi = rssi; «eq_snr» = zero64; «has_eq_snr» = false };
       «profile_len» = 0;
       profile = record { high = 0; low = 0 };
     };
@@ -273,6 +307,10 @@ uplink-with format = record {
   });
 }
 
+abbrev pub uplink-with : ℕ → Message
+uplink-with format = uplink-heard (fin true 97 (pos 0)) format
+
+-- the nested epEui says nothing, and the format is 0 whether given or not
 abbrev pub uplink-2 : Message
 uplink-2 = uplink-with 0
 
@@ -280,7 +318,7 @@ abbrev pub user-data : List ℕ
 user-data = 0x0A ∷ 0x0B ∷ 0x0C ∷ []
 
 pub changed-read : BothRead uplink uplink-changed uplink-2 user-data
-unfolding bigAt ofBits meaningOf rowIn leadBytes saidFrom commandOf placeIn commands lists listIn octetsIn judge cellsOf gravest lookIn placeAmong bodyIn messageOf lentKeys nameAt dataOf readingAs readingOf
+unfolding bigAt ofBits ofInt meaningOf rowIn leadBytes saidFrom commandOf placeIn commands lists listIn octetsIn judge cellsOf gravest lookIn placeAmong bodyIn messageOf lentKeys nameAt dataOf readingAs readingOf
 changed-read = (refl, refl)
 
 -- 28 and 30 elements
@@ -288,3 +326,115 @@ pub changed-told : (d : List ℕ) → lentSize ≤ length d → (r q : Answered)
     → (r ≡ answerOf 28 d (Reading.reads uplink-2 user-data)) × (q ≡ answerOf 30 d (Reading.reads uplink-2 user-data))
 unfolding countOf
 changed-told d h r q M N = (answered U uplink (changed .first) uplink-2 user-data (changed-read .0) d h r M, answered U-changed uplink-changed (changed .second) uplink-2 user-data (changed-read .1) d h q N)
+
+-- Fourth: a con with its geoLocation as a float 64, a float 32 and a whole number, and as two whole numbers and a float 32
+abbrev con-at : List ℕ → List ℕ
+con-at three = 0x87 ∷ []
+    ++ 0xA7 ∷ bytes "command" ++ 0xA3 ∷ bytes "con"
+    ++ 0xA4 ∷ bytes "opId" ++ 0x00 ∷ []
+    ++ 0xA7 ∷ bytes "version" ++ 0xA5 ∷ bytes "1.0.0"
+    ++ 0xA5 ∷ bytes "bsEui" ++ 0x05 ∷ []
+    ++ 0xA4 ∷ bytes "bidi" ++ 0xC2 ∷ []
+    ++ 0xAB ∷ bytes "geoLocation" ++ 0x93 ∷ three
+    ++ 0xA8 ∷ bytes "snBsUuid" ++ 0xDC ∷ 0x00 ∷ 0x10 ∷ replicate 16 0x2A
+
+abbrev pub C : List ℕ
+C = con-at (0xCB ∷ 0x40 ∷ 0x48 ∷ 0 ∷ 0 ∷ 0 ∷ 0 ∷ 0 ∷ 0 ∷ 0xCA ∷ 0x41 ∷ 0x30 ∷ 0 ∷ 0 ∷ 0xFE ∷ [])
+
+abbrev pub C-counted : List ℕ
+C-counted = con-at (0x30 ∷ 0xD1 ∷ 0 ∷ 0x0B ∷ 0xCA ∷ 0xC0 ∷ 0 ∷ 0 ∷ 0 ∷ [])
+
+-- sixteen equal bytes
+abbrev repeated : ℕ → ℕ → Trees
+repeated zero b = none
+repeated (suc n) b = some (lone b) (repeated n b)
+
+abbrev head-of-con : Pairs
+head-of-con = pairs
+    ((text "command", text "con") ∷
+    (text "opId", lone 0) ∷
+    (text "version", text "1.0.0") ∷
+    (text "bsEui", lone 5) ∷
+    (text "bidi", lone 0xC2) ∷ [])
+
+abbrev located-con : Tree → Pairs
+located-con position = pairs ((text "geoLocation", position) ∷ (text "snBsUuid", array 0xDC (0x00 ∷ 0x10 ∷ []) (repeated 16 0x2A)) ∷ [])
+
+abbrev three-of : Tree → Tree → Tree → Tree
+three-of x y z = array 0x93 [] (some x (some y (some z none)))
+
+-- 48, 11 and −2: as floats, and as whole numbers
+abbrev whole-11 : Tree
+whole-11 = leaf 0xD1 [] (0 ∷ 0x0B ∷ [])
+
+abbrev float-48 : Tree
+float-48 = leaf 0xCB [] (0x40 ∷ 0x48 ∷ 0 ∷ 0 ∷ 0 ∷ 0 ∷ 0 ∷ 0 ∷ [])
+
+abbrev float-minus-2 : Tree
+float-minus-2 = leaf 0xCA [] (0xC0 ∷ 0 ∷ 0 ∷ 0 ∷ [])
+
+abbrev floats : Tree
+floats = three-of float-48 snr (lone 0xFE)
+
+abbrev wholes : Tree
+wholes = three-of (lone 0x30) whole-11 (lone 0xFE)
+
+abbrev mixed : Tree
+mixed = three-of (lone 0x30) whole-11 float-minus-2
+
+abbrev pub con-floats : Pairs
+con-floats = before head-of-con (located-con floats)
+
+abbrev pub con-counted : Pairs
+con-counted = before head-of-con (located-con mixed)
+
+floats-stand : StandsFor Kind.positions (meaningOf wholes) (meaningOf floats)
+unfolding meaningOf rowIn leadBytes bigAt ofBits
+floats-stand =
+    StandsFor.position (SameReals.more (SameReal.float64 {z = pos 48} {n = 0x4048_0000_0000_0000} (lit≤ tt, (refl, refl)))
+    (SameReals.more (SameReal.float32 {z = pos 11} {n = 0x4130_0000} (lit≤ tt, (refl, refl))) (SameReals.more SameReal.same SameReals.no-more)))
+
+mixed-stands : StandsFor Kind.positions (meaningOf wholes) (meaningOf mixed)
+unfolding meaningOf rowIn leadBytes bigAt ofBits
+mixed-stands =
+    StandsFor.position (SameReals.more SameReal.same
+    (SameReals.more SameReal.same (SameReals.more (SameReal.float32 {z = negsuc 1} {n = 0xC000_0000} (lit≤ tt, (refl, refl))) SameReals.no-more)))
+
+-- through whole numbers
+con-change : Changed 0 con-floats con-counted
+unfolding rowIn leadBytes meaningOf lists listIn
+con-change =
+    let o = of-kind Kind.positions (fieldsOf 0) (bytes "geoLocation") tt in
+    let to-wholes : Rearranged 0 (located-con floats) (located-con wholes) = Rearranged.back (Rearranged.counted o floats-stand) in
+    Changed.rearranged (inside 0 head-of-con (Rearranged.next to-wholes (Rearranged.counted o mixed-stands)))
+
+pub counted : Instance 0 C C-counted con-floats con-counted
+unfolding isPayload isLawful headOf rowIn leadBytes bytesOf countOf depthOf partCount pairCount bigAt meaningOf saidFrom commandOf placeIn commands
+counted = record {
+  first = says C 0x87 [] con-floats tt;
+  second = says C-counted 0x87 [] con-counted tt;
+  known = record { name = bytes "con"; said = refl; is = refl; ours = lit< tt };
+  change = con-change;
+}
+
+pub counted-alike : (d : List ℕ) (r q : Answered) → Meant C d r → Meant C-counted d q → Alike r q
+counted-alike = alike 0 C C-counted con-floats con-counted counted
+
+-- the position is kept as three float 64s
+abbrev pub con-there : Message
+con-there = record {
+  «op_id» = pos 0;
+  body = Body.Con (record {
+    version = record { here = true; major = 1; minor = 0; patch = 0 };
+    «bs_eui» = 5;
+    bidi = false;
+    «geo_location» = record { here = true; value = located (fin false 3 (pos 4)) (fin false 11 (pos 0)) (fin true 1 (pos 1)) };
+    «sn_bs_uuid» = record { high = 0x2A2A_2A2A_2A2A_2A2A; low = 0x2A2A_2A2A_2A2A_2A2A };
+    «sn_bs_op_id» = record { here = false; value = pos 0 };
+    «sn_sc_op_id» = record { here = false; value = pos 0 };
+  });
+}
+
+pub counted-read : BothRead con-floats con-counted con-there []
+unfolding bigAt ofBits ofInt meaningOf rowIn leadBytes saidFrom commandOf placeIn commands lists listIn octetsIn realsIn cutAtDots digitsFrom versionOf judge cellsOf gravest lookIn placeAmong bodyIn messageOf lentKeys nameAt dataOf readingAs readingOf
+counted-read = (refl, refl)

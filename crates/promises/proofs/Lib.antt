@@ -1,3 +1,4 @@
+pub mod Counted
 pub mod Steady
 pub mod Tested
 pub mod Moves

@@ -1,5 +1,5 @@
--- Larger steps of `Rearranged`, made of its own: a pair moved behind others, pairs turned round, a strange pair put in anywhere,
--- and pairs that mean the same. Assumes nothing.
+-- Larger steps of `Rearranged`, made of its own: a pair moved behind others, pairs turned round, a strange pair put in anywhere or with any other
+-- value, pairs that mean the same, and a step behind others. Assumes nothing.
 use mathlib.Core.Path.{_≡_, refl}
 use Prim.Native.Nat.{ℕ, zero, suc}
 use native.Mathlib.Omega.{arith}
@@ -21,7 +21,7 @@ turned end qs = qs
 turned (pair k v ps) qs = turned ps (pair k v qs)
 
 -- the pairs as they are, in front of others
-abbrev before : Pairs → Pairs → Pairs
+abbrev pub before : Pairs → Pairs → Pairs
 before end qs = qs
 before (pair k v ps) qs = pair k v (before ps qs)
 
@@ -33,6 +33,14 @@ module _ (c : ℕ) where
 
   pub put-in : (n : ℕ) (k v : Tree) (ps : Pairs) → T (isStrange (fieldsOf c) (keyOf k)) → Rearranged c ps (behind n k v ps)
   put-in n k v ps t = Rearranged.next (Rearranged.added (strange (fieldsOf c) (keyOf k) t)) (moved n k v ps)
+
+  -- under a strange key any value may stand for any other
+  pub replaced : (k v w : Tree) (ps : Pairs) → T (isStrange (fieldsOf c) (keyOf k)) → Rearranged c (pair k v ps) (pair k w ps)
+  replaced k v w ps t = let s = strange (fieldsOf c) (keyOf k) t in Rearranged.next (Rearranged.back (Rearranged.added s)) (Rearranged.added s)
+
+  pub inside : (fs : Pairs) {ps qs : Pairs} → Rearranged c ps qs → Rearranged c (before fs ps) (before fs qs)
+  inside end r = r
+  inside (pair k v fs) r = Rearranged.behind (inside fs r)
 
   past : (ps : Pairs) (k v : Tree) (qs : Pairs) → Rearranged c (pair k v (before ps qs)) (before ps (pair k v qs))
   past end k v qs = Rearranged.same

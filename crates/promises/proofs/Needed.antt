@@ -1,9 +1,9 @@
--- Each condition of `Changed` is needed: a change that breaks one of them alone changes the reading. By computation. Assumes nothing.
-use mathlib.Core.{Path._≡_, Path.refl, List.List, List.[], List._∷_}
+-- Each condition of `Changed` is needed: a change that breaks one of them alone changes the reading. All in one table, by computation. Assumes nothing.
+use mathlib.Core.{Path._≡_, Path.refl, Bool.true, Bool.false, List.List, List.[], List._∷_}
 use Prim.Native.Nat.{ℕ}
-use lib.Ieee.{ofBits}
+use lib.{IntN.pos, Ieee.fin, Ieee.ofBits, Ieee.ofInt}
 use Rattle.octets.specs.Number.{bigAt}
-use Rattle.element.specs.{Lead.leadBytes, Lead.rowIn, Tree.Pairs, Tree.Pairs.pair, Meaning.meaningOf, Meaning.meaningOfPairs}
+use Rattle.element.specs.{Lead.leadBytes, Lead.rowIn, Tree.Tree, Tree.Tree.leaf, Tree.Tree.map, Tree.Pairs, Tree.Pairs.pair, Meaning.meaningOf, Meaning.meaningOfPairs}
 use Rattle.names.specs.Names.{commands, placeIn, nameAt, commandOf}
 use Rattle.field.specs.Judge.{octetsIn, judge}
 use Rattle.message.specs.Fields.{lists, listIn}
@@ -11,49 +11,71 @@ use Rattle.message.specs.Reading.{saidFrom, cellsOf, gravest, lookIn, placeAmon
 use Rattle.record.specs.declared.Message.{Message}
 use Rattle.record.specs.Record.{bodyIn, messageOf, lentKeys, dataOf}
 use Rattle.record.specs.Reading.{Reading, readingAs, readingOf}
-use Rattle.promises.proofs.Instances.{text, lone, pairs, ping, ping-under, uplink-bare, uplink, uplink-with, user-data}
+use Rattle.promises.specs.Steady.{Rearranged}
+use Rattle.promises.proofs.Moves.{replaced}
+use Rattle.promises.proofs.Instances.{text, lone, pairs, ping, ping-under, whole-rssi, uplink-telling, uplink-bare, uplink, uplink-heard, uplink-with, uplink-2, user-data}
 
 -- pairs are refused with that number, or read as this record with these bytes beside it
-abbrev Refused : Pairs → ℕ → Type 0
-Refused ps n = readingOf (meaningOfPairs ps) ≡ Reading.refused n
+pub data Case : Type 0 where
+  refused : Pairs → ℕ → Case
+  read : Pairs → Message → List ℕ → Case
 
-abbrev Read : Pairs → Message → List ℕ → Type 0
-Read ps m l = readingOf (meaningOfPairs ps) ≡ Reading.reads m l
+abbrev pub Holds : Case → Type 0
+Holds (refused ps n) = readingOf (meaningOfPairs ps) ≡ Reading.refused n
+Holds (read ps m l) = readingOf (meaningOfPairs ps) ≡ Reading.reads m l
 
--- a key that the command has is put in: it stands twice
-pub added-own : Refused (pair (text "opId") (lone 1) ping) 13
-unfolding bigAt meaningOf rowIn leadBytes saidFrom commandOf placeIn commands lists listIn judge cellsOf gravest lookIn placeAmong bodyIn messageOf lentKeys nameAt dataOf readingAs readingOf
-added-own = refl
+abbrev pub AllHold : List Case → Type 0
+AllHold [] = Unit {0}
+AllHold (c ∷ cs) = Holds c × AllHold cs
 
--- a key is written with another letter
-pub other-key : Refused (pairs ((text "command", text "ping") ∷ (text "opID", lone 1) ∷ [])) 14
-unfolding bigAt meaningOf rowIn leadBytes saidFrom commandOf placeIn commands lists listIn judge cellsOf gravest lookIn placeAmong bodyIn messageOf lentKeys nameAt dataOf readingAs readingOf
-other-key = refl
+-- a ulData with its rssi in one of MessagePack's forms
+abbrev pub heard : ℕ → List ℕ → Pairs
+heard b d = uplink-telling (lone 5) (leaf b [] d)
 
--- an ID is written as another number
-pub other-value : Read (pairs ((text "command", text "ping") ∷ (text "opId", lone 2) ∷ [])) (ping-under 2) []
-unfolding bigAt meaningOf rowIn leadBytes saidFrom commandOf placeIn commands lists listIn judge cellsOf gravest lookIn placeAmong bodyIn messageOf lentKeys nameAt dataOf readingAs readingOf
-other-value = refl
+-- a ulData with an rssi inside the map of a strange key
+abbrev pub made-by : Tree → Pairs
+made-by rssi = pair (text "maker") (map 0x81 [] (pairs ((text "rssi", rssi) ∷ []))) uplink
 
--- an ID of 0 is left out, and not a format
-pub zero-id : Read (pairs ((text "opId", lone 0) ∷ (text "command", text "ping") ∷ [])) (ping-under 0) []
-unfolding bigAt meaningOf rowIn leadBytes saidFrom commandOf placeIn commands lists listIn judge cellsOf gravest lookIn placeAmong bodyIn messageOf lentKeys nameAt dataOf readingAs readingOf
-zero-id = refl
+abbrev pub cases : List Case
+cases =
+    -- a key that the command has is put in: it stands twice
+    refused (pair (text "opId") (lone 1) ping) 13 ∷
+    -- a key is written with another letter
+    refused (pairs ((text "command", text "ping") ∷ (text "opID", lone 1) ∷ [])) 14 ∷
+    -- an ID is written as another number
+    read (pairs ((text "command", text "ping") ∷ (text "opId", lone 2) ∷ [])) (ping-under 2) [] ∷
+    -- an ID of 0 is left out, and not a format
+    read (pairs ((text "opId", lone 0) ∷ (text "command", text "ping") ∷ [])) (ping-under 0) [] ∷
+    refused (pairs ((text "command", text "ping") ∷ [])) 14 ∷
+    -- a format of 1 is left out
+    read (pair (text "format") (lone 1) uplink-bare) (uplink-with 1) user-data ∷
+    read uplink-bare (uplink-with 0) user-data ∷
+    -- a format of 0 is left out where another stands: it stood twice
+    refused (pair (text "format") (lone 0) uplink) 13 ∷
+    -- minus zero is not the whole number 0
+    read (heard 0x00 []) (uplink-heard (fin false 0 (pos 0)) 0) user-data ∷
+    read (heard 0xCB (0x80 ∷ 0 ∷ 0 ∷ 0 ∷ 0 ∷ 0 ∷ 0 ∷ 0 ∷ [])) (uplink-heard (fin true 0 (pos 0)) 0) user-data ∷
+    -- 2^53 + 1 stands for no float, also not for the one next to it
+    refused (heard 0xCF (0 ∷ 0x20 ∷ 0 ∷ 0 ∷ 0 ∷ 0 ∷ 0 ∷ 1 ∷ [])) 15 ∷
+    read (heard 0xCB (0x43 ∷ 0x40 ∷ 0 ∷ 0 ∷ 0 ∷ 0 ∷ 0 ∷ 0 ∷ [])) (uplink-heard (fin false 1 (pos 53)) 0) user-data ∷
+    -- nor does 2^53 + 2, which a float 64 has
+    refused (heard 0xCF (0 ∷ 0x20 ∷ 0 ∷ 0 ∷ 0 ∷ 0 ∷ 0 ∷ 2 ∷ [])) 15 ∷
+    read (heard 0xCB (0x43 ∷ 0x40 ∷ 0 ∷ 0 ∷ 0 ∷ 0 ∷ 0 ∷ 1 ∷ [])) (uplink-heard (fin false 0x10_0000_0000_0001 (pos 1)) 0) user-data ∷
+    -- −96 is another reading than −97
+    read (heard 0xD0 (0xA0 ∷ [])) (uplink-heard (fin true 3 (pos 5)) 0) user-data ∷
+    read (uplink-telling (lone 5) whole-rssi) (uplink-with 0) user-data ∷
+    -- a counter is no real: 5 as a float is refused
+    refused (uplink-telling (leaf 0xCA [] (0x40 ∷ 0xA0 ∷ 0 ∷ 0 ∷ [])) whole-rssi) 15 ∷
+    -- under a strange key nothing is asked: 2^53 + 1 and a text are read alike
+    read (made-by (leaf 0xCF [] (0 ∷ 0x20 ∷ 0 ∷ 0 ∷ 0 ∷ 0 ∷ 0 ∷ 1 ∷ []))) uplink-2 user-data ∷
+    read (made-by (text "none")) uplink-2 user-data ∷
+    []
 
-pub no-id : Refused (pairs ((text "command", text "ping") ∷ [])) 14
-unfolding bigAt meaningOf rowIn leadBytes saidFrom commandOf placeIn commands lists listIn judge cellsOf gravest lookIn placeAmong bodyIn messageOf lentKeys nameAt dataOf readingAs readingOf
-no-id = refl
+pub all-hold : AllHold cases
+unfolding bigAt ofBits ofInt meaningOf rowIn leadBytes saidFrom commandOf placeIn commands lists listIn octetsIn judge cellsOf gravest lookIn placeAmong bodyIn messageOf lentKeys nameAt dataOf readingAs readingOf
+all-hold = (refl, (refl, (refl, (refl, (refl, (refl, (refl, (refl, (refl, (refl, (refl, (refl, (refl, (refl, (refl, (refl, (refl, (refl, (refl, tt)))))))))))))))))))
 
--- a format of 1 is left out
-pub one-format : Read (pair (text "format") (lone 1) uplink-bare) (uplink-with 1) user-data
-unfolding bigAt ofBits meaningOf rowIn leadBytes saidFrom commandOf placeIn commands lists listIn octetsIn judge cellsOf gravest lookIn placeAmong bodyIn messageOf lentKeys nameAt dataOf readingAs readingOf
-one-format = refl
-
-pub no-format : Read uplink-bare (uplink-with 0) user-data
-unfolding bigAt ofBits meaningOf rowIn leadBytes saidFrom commandOf placeIn commands lists listIn octetsIn judge cellsOf gravest lookIn placeAmong bodyIn messageOf lentKeys nameAt dataOf readingAs readingOf
-no-format = refl
-
--- a format of 0 is left out where another stands: it stood twice
-pub two-formats : Refused (pair (text "format") (lone 0) uplink) 13
-unfolding bigAt ofBits meaningOf rowIn leadBytes saidFrom commandOf placeIn commands lists listIn octetsIn judge cellsOf gravest lookIn placeAmong bodyIn messageOf lentKeys nameAt dataOf readingAs readingOf
-two-formats = refl
+-- and so says the theorem's relation
+pub strange-free : (v w : Tree) → Rearranged 7 (made-by v) (made-by w)
+unfolding meaningOf rowIn leadBytes lists listIn
+strange-free v w = replaced 7 (text "maker") (map 0x81 [] (pairs ((text "rssi", v) ∷ []))) (map 0x81 [] (pairs ((text "rssi", w) ∷ []))) uplink tt

@@ -1,7 +1,7 @@
--- Trees and payloads by computed tests: what `Carries` and `Strange` ask of written-out bytes is one computation. Each test is
+-- Trees and payloads by computed tests: what `Carries`, `Strange` and `OfKind` ask of written-out bytes is one computation. Each test is
 -- sound by going through the tree. Assumes nothing.
 use mathlib.Core.{Path._≡_, Path.refl, Path.sym, List.List, List.[], List._∷_}
-use mathlib.Core.Bool.{Bool, true, false, _&&_, not}
+use mathlib.Core.Bool.{Bool, true, false, _&&_, _||_, not}
 use Prim.Native.Nat.{ℕ, _+_}
 use lib.Dec.{T, leb, eqb, eqb→eq, leb→le}
 use lib.ListN.{length}
@@ -13,8 +13,10 @@ use Rattle.element.specs.{Tree.Pairs.end, Tree.Pairs.pair}
 use Rattle.element.specs.Tree.{Tree, Trees, Pairs, bytesOf, countOf, depthOf, partCount, pairCount, Headed, IsBody, shapeOfTree, Lawful, LawfulAll, LawfulPairs, Payload}
 use Rattle.names.specs.Names.{sameBytes}
 use Rattle.names.proofs.Same.{same-eq}
+use Rattle.field.specs.Kind.{Kind}
 use Rattle.message.specs.Fields.{Field}
-use Rattle.promises.specs.Steady.{Strange, Carries}
+use Rattle.message.proofs.KeyKinds.{sameKind, same-kind}
+use Rattle.promises.specs.Steady.{Strange, OfKind, Carries}
 
 abbrev isArray : Shape → Bool
 isArray Never = false
@@ -157,3 +159,14 @@ strange [] u t = tt
 strange (f ∷ l) u t =
     let n = not (sameBytes (f .key) u) in
     (sym (is-false (sameBytes (f .key) u) (both-left n (isStrange l u) t)), strange l u (both-right n (isStrange l u) t))
+
+-- every field of that key has that kind
+abbrev pub isOfKind : Kind → List Field → List ℕ → Bool
+isOfKind κ [] u = true
+isOfKind κ (f ∷ l) u = (not (sameBytes (f .key) u) || sameKind (f .kind) κ) && isOfKind κ l u
+
+pub of-kind : (κ : Kind) (l : List Field) (u : List ℕ) → T (isOfKind κ l u) → OfKind κ l u
+of-kind κ [] u t = tt
+of-kind κ (f ∷ l) u t =
+    let b = not (sameBytes (f .key) u) || sameKind (f .kind) κ in
+    (λ e. same-kind (f .kind) κ (rw e at (both-left b (isOfKind κ l u) t)), of-kind κ l u (both-right b (isOfKind κ l u) t))

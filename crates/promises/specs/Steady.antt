@@ -1,11 +1,13 @@
 -- Demand 3: what makers may change without changing a reading, on trees and without a parser.
-use mathlib.Core.{Path._≡_, Bool.false, List.List, List.[], List._∷_, Option.some}
-use Prim.Native.Nat.{ℕ, _<_}
-use lib.IntN.{pos}
+use mathlib.Core.{Path._≡_, Bool.true, Bool.false, List.List, List.[], List._∷_, Option.some}
+use Prim.Native.Nat.{ℕ, suc, _^_, _≤_, _<_}
+use lib.IntN.{ℤ, pos, negsuc}
+use lib.Ieee.{Float, binary32, binary64, ofBits, Exact.HasValue}
 use Rattle.element.specs.{Tree.Tree, Tree.Pairs, Tree.Payload, Tree.Tree.map, Tree.Pairs.pair}
-use Rattle.element.specs.{Meaning.keyOf, Meaning.meaningOf, Meaning.meaningOfPairs, Meaning.Element.whole}
+use Rattle.element.specs.Meaning.{Element, Elements, keyOf, meaningOf, meaningOfPairs}
+use Rattle.element.specs.Meaning.Element.{whole, single, double, list}
 use Rattle.names.specs.Names.{bytes, sameBytes, commandOf}
-use Rattle.field.specs.Cell.{Said}
+use Rattle.field.specs.{Kind.Kind, Cell.Said}
 use Rattle.message.specs.{Fields.Field, Fields.fieldsOf, Reading.saidOf, Reading.commandSaid}
 use Rattle.record.specs.Meant.{Answered}
 
@@ -14,7 +16,32 @@ abbrev pub Strange : List Field → List ℕ → Type 0
 Strange [] u = Unit {0}
 Strange (f ∷ l) u = (sameBytes (f .key) u ≡ false) × Strange l u
 
--- pairs of a message of command c, put in another order, with strange pairs put in, and with other widths; any number of these, and back
+-- every field of that key has that kind
+abbrev pub OfKind : Kind → List Field → List ℕ → Type 0
+OfKind κ [] u = Unit {0}
+OfKind κ (f ∷ l) u = (sameBytes (f .key) u ≡ true → f .kind ≡ κ) × OfKind κ l u
+
+-- the float x is exactly the whole number z, which is from −2^53 to 2^53; of the two zeros it is plus zero
+abbrev pub Exactly : ℤ → Float → Type 0
+Exactly (pos n) x = (n ≤ 2 ^ 53) × HasValue x false n 1
+Exactly (negsuc k) x = (suc k ≤ 2 ^ 53) × HasValue x true (suc k) 1
+
+-- a whole number and a float 32 or 64 of exactly that number
+pub data SameReal : Element → Element → Type 0 where
+  same : {e : Element} → SameReal e e
+  float32 : {z : ℤ} {n : ℕ} → Exactly z (ofBits binary32 n) → SameReal (whole z) (single n)
+  float64 : {z : ℤ} {n : ℕ} → Exactly z (ofBits binary64 n) → SameReal (whole z) (double n)
+
+pub data SameReals : Elements → Elements → Type 0 where
+  no-more : SameReals Elements.no-more Elements.no-more
+  more : {e d : Element} {es ds : Elements} → SameReal e d → SameReals es ds → SameReals (Elements.more e es) (Elements.more d ds)
+
+-- what stands for what in a real field, and in each of geoLocation's three
+pub data StandsFor : Kind → Element → Element → Type 0 where
+  real : {e d : Element} → SameReal e d → StandsFor Kind.reals e d
+  position : {es ds : Elements} → SameReals es ds → StandsFor Kind.positions (list es) (list ds)
+
+-- pairs of a message of command c, put in another order, with strange pairs put in, with other widths, and with whole numbers for reals; any number of these, and back
 pub data Rearranged (c : ℕ) : Pairs → Pairs → Type 0 where
   -- nothing changes
   same : {ps : Pairs} → Rearranged c ps ps
@@ -26,6 +53,8 @@ pub data Rearranged (c : ℕ) : Pairs → Pairs → Type 0 where
   added : {k v : Tree} {ps : Pairs} → Strange (fieldsOf c) (keyOf k) → Rearranged c ps (pair k v ps)
   -- a key and a value are written with other widths: they mean the same
   widened : {k v j w : Tree} {ps : Pairs} → keyOf k ≡ keyOf j → meaningOf v ≡ meaningOf w → Rearranged c (pair k v ps) (pair j w ps)
+  -- a whole number is written as a float where a real is meant
+  counted : {κ : Kind} {k v w : Tree} {ps : Pairs} → OfKind κ (fieldsOf c) (keyOf k) → StandsFor κ (meaningOf v) (meaningOf w) → Rearranged c (pair k v ps) (pair k w ps)
   next : {ps qs rs : Pairs} → Rearranged c ps qs → Rearranged c qs rs → Rearranged c ps rs
   back : {ps qs : Pairs} → Rearranged c ps qs → Rearranged c qs ps
 

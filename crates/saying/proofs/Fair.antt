@@ -1,26 +1,27 @@
 -- What a cell without a fault holds, by its kind: nothing, or a value in the kind's range. Each kind's judging tests its range; that a real
 -- which was read is finite and a binary64 holds for both formats, since a value of binary32 is one of binary64. Assumes nothing.
 use mathlib.Core.Path.{_≡_, refl, sym, ap, subst, _∙_}
-use mathlib.Core.Bool.{Bool, true, false, not, cond}
+use mathlib.Core.Bool.{Bool, true, false}
 use mathlib.Core.{List.List, List.[], List._∷_, Option.Option, Option.some, Option.none}
-use Prim.Native.Nat.{ℕ, zero, suc, _/_, _%_}
+use Prim.Native.Nat.{ℕ, _^_}
 use native.Mathlib.Omega.{arith}
 use lib.Dec.{T, eqb, leb, ltb, leb·suc-suc}
-use lib.{IntN.ℤ, IntN.pos, IntN.negsuc, Pow.areBytes}
-use lib.Ieee.{Float, nan, inf, fin, Format, binary32, binary64, ofBits, ofFields, odd, toBits, fits as holds, top, hid, ones}
-use lib.Ieee.Bits.{ofBits-toBits, ofBits-fits}
-use lib.Ieee.Fits.{and-i, fits-widens}
+use lib.{IntN.ℤ, IntN.pos, IntN.negsuc, IntN.natAbs, Pow.areBytes}
+use lib.Ieee.{Float, Format, binary32, binary64, ofBits, ofInt, toBits, fits as holds}
+use lib.Ieee.Bits.{ofBits-toBits}
+use lib.Ieee.Fits.{and-i, ofInt-fits}
 use Rattle.octets.specs.Choice.{either}
-use Rattle.octets.proofs.Ranges.{true-false}
 use Rattle.element.specs.{Meaning.Element, Meaning.Elements, Meaning.Elements.no-more, Meaning.Elements.more}
 use Rattle.element.specs.Meaning.Element.{null, truth, whole, single, double, text, octets, typed, list, table}
 use Rattle.number.specs.declared.Number.{Number, the-variants.Signed, the-variants.Unsigned, the-variants.Real, the-variants.Not}
 use Rattle.number.specs.Number.{numberOf, finite}
+use Rattle.number.proofs.Finite.{isFin, bits-fin, bits-fit, valued-fin}
 use Rattle.field.specs.Kind.{Kind, Value}
-use Rattle.field.specs.Judge.{when, onSome, inRange, wholeIn, realIn, octetIn, truthOf, textOf, partsOf, octetsIn, realsIn, threeOf, stringSized, judge}
+use Rattle.field.specs.Judge.{when, onSome, inRange, wholeIn, wholeReal, realIn, octetIn, truthOf, textOf, partsOf, octetsIn, realsIn, threeOf, stringSized, judge}
 use Rattle.field.specs.Version.{numberOfPart, digitsFrom, atMost, released, three, versionOf}
 use Rattle.field.specs.Version as Version
 use Rattle.field.specs.Cell.{Said, Cell, judged, cellOf}
+use Rattle.field.proofs.Reals.{isNegative, whole-value}
 use Rattle.message.specs.Reading.{cellFault}
 use Rattle.saying.specs.Fits.{isReal, isSized}
 
@@ -35,49 +36,14 @@ pub data Fair : Kind → Cell → Type 0 where
   letters : (lo hi : ℕ) (d : List ℕ) → T (isSized lo hi d) → Fair (Kind.texts lo hi) (Cell.good (Value.string d))
   release : (a b c : ℕ) → T (leb a 65535) → T (leb b 65535) → T (leb c 65535) → Fair Kind.versions (Cell.good (Value.release a b c))
 
--- a float is finite exactly if its exponent's field is not all ones
-abbrev isFin : Float → Bool
-isFin nan = false
-isFin (inf s) = false
-isFin (fin s m e) = true
-
-odd-fin : (d : ℕ) (s : Bool) (q k l : ℕ) → isFin (odd d s q k l) ≡ true
-unfolding odd
-odd-fin d s zero k l = refl
-odd-fin d s (suc q) k l = refl
-
-unbounded : (b s : Bool) → isFin (cond b (inf s) nan) ≡ false
-unbounded true s = refl
-unbounded false s = refl
-
-fields-fin : (f : Format) (s : Bool) (x t : ℕ) (b : Bool) → eqb x (ones f) ≡ b → isFin (ofFields f s x t) ≡ not b
-unfolding ofFields
-fields-fin binary32 s zero t true e = true-false (sym e)
-fields-fin binary32 s zero t false e = odd-fin 24 s t 0 149
-fields-fin binary32 s (suc x) t true e = simp e (unbounded (eqb t 0) s)
-fields-fin binary32 s (suc x) t false e = simp (e, odd-fin)
-fields-fin binary64 s zero t true e = true-false (sym e)
-fields-fin binary64 s zero t false e = odd-fin 53 s t 0 1074
-fields-fin binary64 s (suc x) t true e = simp e (unbounded (eqb t 0) s)
-fields-fin binary64 s (suc x) t false e = simp (e, odd-fin)
-
-bits-fin : (f : Format) (n : ℕ) → isFin (ofBits f n) ≡ finite f n
-unfolding ofBits
-bits-fin f n = fields-fin f _ (n % top f / hid f) (n % hid f) (eqb (n % top f / hid f) (ones f)) refl
-
 fin-bits : (f : Format) (x : Float) → T (holds f x) → isFin x ≡ finite f (toBits f x)
 fin-bits f x h = sym (ap isFin (ofBits-toBits f x h)) ∙ bits-fin f (toBits f x)
 
-double-fits : (f : Format) (n : ℕ) → T (holds binary64 (ofBits f n))
-double-fits binary32 n = fits-widens (ofBits binary32 n) (ofBits-fits binary32 n)
-double-fits binary64 n = ofBits-fits binary64 n
+fin-real : (x : Float) → T (holds binary64 x) → T (isFin x) → T (isReal x)
+fin-real x h t = and-i (finite binary64 (toBits binary64 x)) (holds binary64 x) (subst T (fin-bits binary64 x h) t) h
 
 bits-real : (f : Format) (n : ℕ) → T (finite f n) → T (isReal (ofBits f n))
-bits-real f n t =
-    let x = ofBits f n in
-    let h = double-fits f n in
-    and-i (finite binary64 (toBits binary64 x)) (holds binary64 x)
-    (subst T (sym (bits-fin f n) ∙ fin-bits binary64 x h) t) h
+bits-real f n t = fin-real (ofBits f n) (bits-fit f n) (subst T (sym (bits-fin f n)) t)
 
 -- what is read as a real
 abbrev RealRead : Number → Type 0
@@ -108,9 +74,17 @@ abbrev Where : {A : Type 0} → (A → Type 0) → Option A → Type 0
 Where P none = Unit {0}
 Where P (some a) = P a
 
+-- a whole number's real is finite, and a float 64 holds it
+whole-in : (z : ℤ) → Where (λ (x : Float). T (isReal x)) (wholeReal z)
+whole-in z = go (inRange (2 ^ 53) (2 ^ 53) z) refl
+  where
+    go : (b : Bool) → inRange (2 ^ 53) (2 ^ 53) z ≡ b → Where (λ (x : Float). T (isReal x)) (either b (λ _. some (ofInt binary64 z)) (λ _. none))
+    go true e = fin-real (ofInt binary64 z) (ofInt-fits binary64 z) (valued-fin (ofInt binary64 z) (isNegative z) (natAbs z) 1 (whole-value z (rw e tt)))
+    go false e = tt
+
 real-in : (n : Number) → RealRead n → Where (λ (x : Float). T (isReal x)) (realIn n)
-real-in (Signed z) t = tt
-real-in (Unsigned n) t = tt
+real-in (Signed z) t = whole-in z
+real-in (Unsigned n) t = whole-in (pos n)
 real-in (Real x) t = t
 real-in Not t = tt
 

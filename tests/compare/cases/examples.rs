@@ -30,7 +30,7 @@ fn with_extra(value: &[u8]) -> Vec<u8> {
 
 pub fn all(stream: &mut Stream) {
     readings(stream);
-    real(stream);
+    reals(stream);
     limits(stream);
     frames(stream);
     writings(stream);
@@ -59,15 +59,29 @@ fn readings(stream: &mut Stream) {
     }
 }
 
-/// "CA C2 C2 00 00 is −97, kept as C0 58 40 00 00 00 00 00"
-fn real(stream: &mut Stream) {
-    let mut payload =
-        b"\x88\xA7command\xA3det\xA4opId\x01\xA5epEui\x02\xA6rxTime\x03\xA9packetCnt\x04\xA3snr\xCA\0\0\0\0".to_vec();
-    payload.extend(b"\xA4rssi\xCA\xC2\xC2\0\0\xA4sign\x94\0\0\0\0");
-    let mut lent = filled(0xEE);
-    crate::reference::calls::read(&payload, &mut lent);
-    assert_eq!(lent.message[48..56], [0, 0, 0, 0, 0, 0x40, 0x58, 0xC0]);
-    stream.read(&payload, &filled(0xEE));
+/// "CA C2 C2 00 00 is −97, kept as C0 58 40 00 00 00 00 00", and document 02's Q-1: so is the integer −97; 2^53 and −2^53 are taken,
+/// one further is 15; 0 is plus zero in any form.
+fn reals(stream: &mut Stream) {
+    let examples: [(&[u8], Option<u64>); 10] = [
+        (b"\xCA\xC2\xC2\0\0", Some(0xC058_4000_0000_0000)),
+        (b"\xD0\x9F", Some(0xC058_4000_0000_0000)),
+        (b"\xCF\0\x20\0\0\0\0\0\0", Some(0x4340_0000_0000_0000)),
+        (b"\xD3\xFF\xE0\0\0\0\0\0\0", Some(0xC340_0000_0000_0000)),
+        (b"\xCF\0\x20\0\0\0\0\0\x01", None),
+        (b"\xD3\xFF\xDF\xFF\xFF\xFF\xFF\xFF\xFF", None),
+        (b"\xCF\0\x40\0\0\0\0\0\0", None),
+        (b"\0", Some(0)),
+        (b"\xD3\0\0\0\0\0\0\0\0", Some(0)),
+        (b"\xCB\x80\0\0\0\0\0\0\0", Some(1 << 63)),
+    ];
+    let before = b"\x88\xA7command\xA3det\xA4opId\x01\xA5epEui\x02\xA6rxTime\x03\xA9packetCnt\x04\xA3snr\xCA\0\0\0\0\xA4rssi";
+    for (rssi, bits) in examples {
+        let payload = [before, rssi, b"\xA4sign\x94\0\0\0\0"].concat();
+        let mut lent = filled(0xEE);
+        crate::reference::calls::read(&payload, &mut lent);
+        bits.iter().for_each(|bits| assert_eq!(lent.message[48..56], bits.to_le_bytes()));
+        assert_eq!(stream.read(&payload, &filled(0xEE)), if bits.is_some() { value(21) } else { refused(15, 0) });
+    }
 }
 
 /// "size 4,096 accepted, 4,097 refused; 1,024 elements pass, 1,025 not"

@@ -6,7 +6,7 @@ use crate::reference::fields::{kind, Kind};
 pub fn values(key: &str) -> Vec<Node> {
     let mut values = match kind(key) {
         Kind::Whole(range) => wholes(*range.start(), *range.end()),
-        Kind::Real => reals(),
+        Kind::Real => reals().into_iter().chain(wholes(-(1 << 53), 1 << 53)).chain([Node::Whole(-97)]).collect(),
         Kind::Location => locations(),
         Kind::Version => VERSIONS.iter().map(|version| text(version)).collect(),
         Kind::Bytes(range) => arrays(*range.start(), *range.end()),
@@ -50,6 +50,7 @@ fn wholes(low: i128, high: i128) -> Vec<Node> {
         2,
         1 << 31,
         1 << 32,
+        1 << 54,
         (1 << 63) - 1,
         1 << 63,
         -(1 << 63),
@@ -67,11 +68,11 @@ pub fn reals() -> Vec<Node> {
     singles.chain(double.iter().flat_map(|bits| [Node::Float64(*bits), Node::Float64(bits | 1 << 63)])).collect()
 }
 
-/// Three reals of which one is any of the reals or no real, and other counts of them.
+/// Three reals of which one is any of the reals, a whole number or no real, and other counts of them.
 fn locations() -> Vec<Node> {
     let plain = Node::Float32(0x42C2_0000);
     let mut values: Vec<Node> = [0, 1, 2, 4].iter().map(|count| Node::Array(vec![plain.clone(); *count])).collect();
-    for odd in reals().into_iter().chain(one_of_each()) {
+    for odd in reals().into_iter().chain(wholes(-(1 << 53), 1 << 53)).chain(one_of_each()) {
         for at in 0..3 {
             let mut three = vec![plain.clone(); 3];
             three[at] = odd.clone();

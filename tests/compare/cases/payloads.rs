@@ -119,9 +119,13 @@ fn node(random: &mut Random, value: &Value) -> Node {
     }
 }
 
-/// In float 32 at times, where that is exact.
+/// As a whole number or in float 32 at times, where that is exact; minus zero is no whole number.
 fn real(random: &mut Random, number: f64) -> Node {
     let single = number as f32;
+    let whole = number as i128;
+    if (whole as f64).to_bits() == number.to_bits() && number.abs() <= 2f64.powi(53) && random.one_in(2) {
+        return Node::Whole(whole);
+    }
     if f64::from(single).to_bits() == number.to_bits() && random.one_in(2) {
         return Node::Float32(single.to_bits());
     }

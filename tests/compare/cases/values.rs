@@ -57,10 +57,10 @@ pub fn whole(random: &mut Random, range: &RangeInclusive<i128>) -> i128 {
     }
 }
 
-/// A finite real: among them both zeros, the smallest and largest, and those that float 32 holds exactly.
+/// A finite real: among them both zeros, the smallest and largest, those that float 32 holds exactly, and whole numbers up to 2^53.
 pub fn real(random: &mut Random) -> f64 {
     loop {
-        let real = match random.below(4) {
+        let real = match random.below(6) {
             0 => {
                 random.pick(&[0.0, -0.0, 1.0, -97.0, 0.1, f64::MAX, f64::MIN, f64::MIN_POSITIVE, 5e-324, -5e-324, 1e-40, 2e-308])
             }
@@ -73,6 +73,7 @@ pub fn real(random: &mut Random) -> f64 {
                 f32::from_bits(0x007F_FFFF),
                 -0.5,
             ])),
+            3 | 4 => whole(random, &(-(1 << 53)..=1 << 53)) as f64,
             _ => f64::from_bits(random.next()),
         };
         if real.is_finite() {

@@ -57,8 +57,7 @@ pub fn kind(key: &str) -> Kind {
 pub fn value(kind: &Kind, element: &Element) -> Option<Value> {
     match (kind, element) {
         (Kind::Whole(_), Element::Whole(number)) => Some(Value::Whole(*number)),
-        // Reals "must be float 32 or 64"
-        (Kind::Real, Element::Real(real)) => Some(Value::Real(*real)),
+        (Kind::Real, element) => real(element).map(Value::Real),
         (Kind::Location, Element::Array(entries)) => location(entries).map(Value::Location),
         (Kind::Flag, Element::Flag(flag)) => Some(Value::Flag(*flag)),
         (Kind::Version, Element::Text(text)) => version(text).map(Value::Version),
@@ -86,9 +85,19 @@ pub fn in_range(kind: &Kind, value: &Value) -> bool {
     }
 }
 
+/// Reals "must be float 32 or 64". Document 02, Q-1: "Every real field must also take an integer from −2^53 to 2^53 as the real of
+/// exactly that number, 0 as plus zero; others remain 15."
+fn real(element: &Element) -> Option<f64> {
+    match element {
+        Element::Real(real) => Some(*real),
+        Element::Whole(number) if (-(1 << 53)..=1 << 53).contains(number) => Some(*number as f64),
+        _ => None,
+    }
+}
+
 fn location(entries: &[Element]) -> Option<[f64; 3]> {
     match entries {
-        [Element::Real(latitude), Element::Real(longitude), Element::Real(altitude)] => Some([*latitude, *longitude, *altitude]),
+        [latitude, longitude, altitude] => Some([real(latitude)?, real(longitude)?, real(altitude)?]),
         _ => None,
     }
 }

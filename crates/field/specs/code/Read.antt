@@ -1,7 +1,7 @@
 -- For the private readers: a value as it is handed on. No statement of a public function rests on this page.
 use Prim.Native.Nat.{ℕ}
 use mathlib.Core.{Bool._&&_, List.List, Option.Option, Option.some}
-use lib.Dec.{leb}
+use lib.{Dec.leb, Ieee.Float}
 use Rattle.octets.specs.Choice.{either}
 use Rattle.field.specs.declared.{Judged.Judged, Located.Located, Released.Released}
 use Rattle.field.specs.{Kind.Kind, Kind.Value, Judge.onSome, Judge.realIn, Judge.judge, Cell.judged, Cell.zero64, Cell.origin}
@@ -14,6 +14,10 @@ badly = record { state = 1; word = 0; figure = zero64 }
 
 abbrev pub well : ℕ → Judged
 well n = record { state = 0; word = n; figure = zero64 }
+
+-- and a real
+abbrev pub figured : Float → Judged
+figured x = record { state = 0; word = 0; figure = x }
 
 -- a value, or none, as the code hands it on
 unfoldable pub tellOf : Option Value → Judged
@@ -40,6 +44,6 @@ releasedBy v = releasedOf (judged v)
 unfoldable pub sizedOf : ℕ → ℕ → ℕ → Judged
 sizedOf lo hi n = either (leb lo n && leb n hi) (λ _. well n) (λ _. badly)
 
--- a number as a finite real
+-- a number as a real
 abbrev pub realValueIn : Number → Option Value
 realValueIn n = onSome (realIn n) (λ x. some (Value.figure x))
