@@ -64,7 +64,7 @@ static const char *const no_reals[] = {
     STATUS_RSP "C0", STATUS_RSP "C2", STATUS_RSP "'0'", STATUS_RSP "9100", STATUS_RSP "80",
 };
 
-/* A whole number where none is meant stands for no real, and a real for no whole number. */
+/* Fields of other kinds are as they were: a float stands for no whole number. */
 static const char *const other_kinds[] = {
     "82 'command' 'ping' 'opId' CA3F800000", "82 'command' 'ping' 'opId' CB3FF0000000000000",
     "83 'command' 'detRsp' 'opId' 01 'sign' 94 CA00000000 000000",

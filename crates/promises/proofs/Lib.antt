@@ -3,6 +3,7 @@ pub mod Steady
 pub mod Tested
 pub mod Moves
 pub mod Instances
+pub mod Located
 pub mod Limits
 pub mod Needed
 pub mod Left

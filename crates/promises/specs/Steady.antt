@@ -32,6 +32,7 @@ pub data SameReal : Element → Element → Type 0 where
   float32 : {z : ℤ} {n : ℕ} → Exactly z (ofBits binary32 n) → SameReal (whole z) (single n)
   float64 : {z : ℤ} {n : ℕ} → Exactly z (ofBits binary64 n) → SameReal (whole z) (double n)
 
+-- an array's parts, each so
 pub data SameReals : Elements → Elements → Type 0 where
   no-more : SameReals Elements.no-more Elements.no-more
   more : {e d : Element} {es ds : Elements} → SameReal e d → SameReals es ds → SameReals (Elements.more e es) (Elements.more d ds)
