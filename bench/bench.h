@@ -12,7 +12,7 @@ enum way { WAY_FULL, WAY_SHORT, WAY_EMPTY };
 
 /* Each prepares a case and answers the function that runs it; NULL if the name is another's. */
 typedef bench_rounds *bench_case(const char *what, const char *name, unsigned size, enum way way);
-bench_case reads_case, writes_case, tables_case, sessions_case, streams_case;
+bench_case reads_case, writes_case, tables_case, sessions_case, streams_case, queues_case;
 
 /* The calls by their shapes, so that an empty one can stand in for them. */
 typedef uint64_t call_read(const uint8_t *payload, size_t payload_len, uint8_t *message, size_t message_len, uint8_t *data,
@@ -30,6 +30,11 @@ typedef uint64_t call_arrive(uint8_t *session, size_t session_len, const uint8_t
 typedef uint64_t call_begin(uint8_t *session, size_t session_len, const uint8_t *message, size_t message_len, const uint8_t *data,
                             size_t data_len, uint8_t *room, size_t room_len);
 typedef uint64_t call_lost(uint8_t *session, size_t session_len);
+typedef uint64_t call_add(uint8_t *queue, size_t queue_len, const uint8_t *message, size_t message_len, const uint8_t *data,
+                          size_t data_len);
+typedef uint64_t call_cancel(uint8_t *queue, size_t queue_len, uint64_t que_id);
+typedef uint64_t call_choose(uint8_t *queue, size_t queue_len, uint64_t meter, uint32_t counter, uint8_t expected);
+typedef uint64_t call_sound(const uint8_t *queue, size_t queue_len);
 call_read empty_read;
 call_write empty_write;
 call_frame empty_frame;
@@ -37,6 +42,15 @@ call_uplink empty_uplink;
 call_arrive empty_arrive;
 call_begin empty_begin;
 call_lost empty_lost;
+call_add empty_add;
+call_cancel empty_cancel;
+call_choose empty_choose;
+call_sound empty_sound;
+
+/* The queue's calls once more, as a C programmer writes them: they take what they are handed for good. */
+call_add plain_add;
+call_cancel plain_cancel;
+call_choose plain_choose;
 
 /* A message as the calls take it: its bytes in front of the data, and the data. */
 #define IMAGE_IN(m) (const uint8_t *)&(m), CHZ_MESSAGE, (m).data, CHZ_DATA

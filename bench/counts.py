@@ -23,6 +23,13 @@ EMPTY = {
     "arrive": ("arrive", "ping", 0),
     "begin": ("begin", "ping", 0),
     "lost": ("lost", "open", 0),
+    "add": ("add", "least", 0),
+    "add_c": ("add", "least", 0),
+    "cancel": ("cancel", "least", 1),
+    "cancel_c": ("cancel", "least", 1),
+    "choose": ("choose", "least", 1),
+    "choose_c": ("choose", "least", 1),
+    "sound": ("sound", "least", 0),
     "frame": ("frame", "rows", 1),
     "stream": ("stream", "rows", 1),
 }

@@ -47,3 +47,27 @@ uint64_t empty_lost(uint8_t *session, size_t session_len)
     (void)session, (void)session_len;
     return 0;
 }
+
+uint64_t empty_add(uint8_t *queue, size_t queue_len, const uint8_t *message, size_t message_len, const uint8_t *data, size_t data_len)
+{
+    (void)queue, (void)queue_len, (void)message, (void)message_len, (void)data, (void)data_len;
+    return 0;
+}
+
+uint64_t empty_cancel(uint8_t *queue, size_t queue_len, uint64_t que_id)
+{
+    (void)queue, (void)queue_len, (void)que_id;
+    return 0;
+}
+
+uint64_t empty_choose(uint8_t *queue, size_t queue_len, uint64_t meter, uint32_t counter, uint8_t expected)
+{
+    (void)queue, (void)queue_len, (void)meter, (void)counter, (void)expected;
+    return 0;
+}
+
+uint64_t empty_sound(const uint8_t *queue, size_t queue_len)
+{
+    (void)queue, (void)queue_len;
+    return 0;
+}

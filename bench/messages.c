@@ -76,6 +76,28 @@ static void fill_att_prp(chz_message *m)
     for (int i = 0; i < 16; i++) a->nwk_sn_key[i] = (uint8_t)(17 * i);
 }
 
+static void fill_downlink(chz_message *m, unsigned entries, unsigned size)
+{
+    m->command = CHZ_DL_DATA_QUE;
+    m->dl_data_que.ep_eui = 0x70B3D50000000001;
+    m->dl_data_que.que_id = 70000;
+    m->dl_data_que.entries = (uint8_t)entries;
+    for (unsigned i = 0; i < entries; i++) m->dl.length[i] = (uint8_t)size;
+    for (unsigned i = 0; i < entries * size; i++) m->dl.bytes[i] = (uint8_t)(7 * i);
+}
+
+static void fill_downlinks(chz_message *m, unsigned entries)
+{
+    chz_dl_data_que *d = &m->dl_data_que;
+    fill_downlink(m, entries, 50);
+    d->cnt_depend = 1;
+    for (unsigned i = 0; i < entries; i++) m->dl.counter[i] = 70000 + i;
+    d->format = 1;
+    d->prio = 1.5;
+    d->has_response_exp = d->has_response_prio = d->has_dl_wind_req = d->has_exp_only = 1;
+    d->response_exp = 1;
+}
+
 void message_fill(chz_message *m, const char *name, unsigned size)
 {
     memset(m, 0, sizeof *m);
@@ -86,6 +108,8 @@ void message_fill(chz_message *m, const char *name, unsigned size)
     if (!strcmp(name, "ulData") || !strcmp(name, "singles") || !strcmp(name, "wholes")) fill_ul_data(m, size);
     if (!strcmp(name, "wholes")) m->ul_data.packet.eq_snr = 1;
     if (!strcmp(name, "attPrp")) fill_att_prp(m);
+    if (!strcmp(name, "downlink")) fill_downlink(m, 1, size);
+    if (!strcmp(name, "downlinks")) fill_downlinks(m, size);
     if (!strcmp(name, "detRsp")) {
         m->command = CHZ_DET_RSP;
         memcpy(m->det_rsp.sign, "\x01\x02\xFF\x00", 4);
@@ -179,12 +203,44 @@ INLINED void pack_ul_data(msgpack_packer *pk, const chz_message *m, enum figures
     KEY("dlAck"), truth(pk, m->ul_data.dl_ack);
 }
 
+static void pack_counters(msgpack_packer *pk, const chz_message *m)
+{
+    KEY("packetCnt"), msgpack_pack_array(pk, m->dl_data_que.entries);
+    for (int i = 0; i < m->dl_data_que.entries; i++) msgpack_pack_uint32(pk, m->dl.counter[i]);
+}
+
+static void pack_entries(msgpack_packer *pk, const chz_message *m)
+{
+    const uint8_t *bytes = m->dl.bytes;
+    KEY("userData"), msgpack_pack_array(pk, m->dl_data_que.entries);
+    for (int i = 0; i < m->dl_data_que.entries; bytes += m->dl.length[i++]) octets(pk, bytes, m->dl.length[i]);
+}
+
+static void pack_downlink(msgpack_packer *pk, const chz_message *m)
+{
+    const chz_dl_data_que *d = &m->dl_data_que;
+    int flags = d->has_response_exp + d->has_response_prio + d->has_dl_wind_req + d->has_exp_only;
+    start(pk, (size_t)(6 + d->cnt_depend + (d->format != 0) + (d->prio != 0) + flags), "dlDataQue", 9, m->op_id);
+    KEY("epEui"), msgpack_pack_uint64(pk, d->ep_eui);
+    KEY("queId"), msgpack_pack_uint64(pk, d->que_id);
+    KEY("cntDepend"), truth(pk, d->cnt_depend);
+    if (d->cnt_depend) pack_counters(pk, m);
+    pack_entries(pk, m);
+    if (d->format) KEY("format"), msgpack_pack_uint8(pk, d->format);
+    if (d->prio != 0) KEY("prio"), msgpack_pack_double(pk, d->prio);
+    if (d->has_response_exp) KEY("responseExp"), truth(pk, d->response_exp);
+    if (d->has_response_prio) KEY("responsePrio"), truth(pk, d->response_prio);
+    if (d->has_dl_wind_req) KEY("dlWindReq"), truth(pk, d->dl_wind_req);
+    if (d->has_exp_only) KEY("expOnly"), truth(pk, d->exp_only);
+}
+
 void message_pack(msgpack_packer *pk, const chz_message *m)
 {
     switch (m->command) {
     case CHZ_CON: pack_con(pk, m, 0); return;
     case CHZ_CON_RSP: pack_con_rsp(pk, m); return;
     case CHZ_UL_DATA: pack_ul_data(pk, m, FLOATS_64); return;
+    case CHZ_DL_DATA_QUE: pack_downlink(pk, m); return;
     case CHZ_DET_RSP:
         start(pk, 3, "detRsp", 6, m->op_id);
         KEY("sign"), octets(pk, m->det_rsp.sign, 4);

@@ -11,7 +11,8 @@
 #define PAIRS_MOST 500
 
 /* Fills an image. The names are ping, con, detRsp, conRsp, ulData and attPrp, and for a ulData whose signal figures are packed as
- * float 32 or as integers singles and wholes; size is the bytes of user data. */
+ * float 32 or as integers singles and wholes; size is the bytes of user data. downlink is a plain dlDataQue with one data entry, size
+ * bytes long; downlinks is one with all its fields and size data entries of 50 bytes, each for its counter. */
 void message_fill(chz_message *m, const char *name, unsigned size);
 
 /* Packs the same message in the library's own order; attPrp isn't packed. */

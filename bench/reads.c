@@ -43,6 +43,16 @@ static void rounds_read(unsigned long rounds)
     while (rounds--) call(payload, payload_len, IMAGE_OUT(image));
 }
 
+/* How many bytes stand beside the message. */
+static size_t data_len(const chz_message *m)
+{
+    size_t len = offsetof(chz_dl_entries, bytes);
+    if (m->command == CHZ_UL_DATA) return m->ul_data.user_len;
+    if (m->command != CHZ_DL_DATA_QUE) return 0;
+    for (int i = 0; i < m->dl_data_que.entries; i++) len += m->dl.length[i];
+    return len;
+}
+
 /* All sides have to accept the payload, and the library has to read what was packed. */
 static void agree(const char *name, unsigned size)
 {
@@ -52,7 +62,7 @@ static void agree(const char *name, unsigned size)
     uint64_t answer = chz_message_read(payload, payload_len, &image);
     need(chz_refused(answer) == CHZ_DONE, "chz_read refuses the payload");
     need(!memcmp(&image, &wanted, CHZ_MESSAGE), "chz_read reads another message");
-    need(wanted.command != CHZ_UL_DATA || !memcmp(image.data, wanted.data, wanted.ul_data.user_len), "chz_read reads other data");
+    need(!memcmp(image.data, wanted.data, data_len(&wanted)), "chz_read reads other data");
     need(strcmp(name, "pairs") || size != PAIRS_MOST || payload_len == PAYLOAD_MOST, "500 pairs aren't 4,096 bytes");
     need(chz_form(payload, payload_len) == answer, "chz_form answers otherwise");
     need(unpack(payload, payload_len, NULL, 0, NULL, 0) == 1, "msgpack-c refuses the payload");

@@ -79,6 +79,8 @@ static const struct step steps[] = {
     { "arrive", "resume", "con", 1, CHZ_RESUMED, CHZ_CON_RSP },
     { "begin", "ping", "ping", 0, CHZ_ISSUED, CHZ_PING },
     { "begin", "attPrp", "attPrp", 0, CHZ_ISSUED, CHZ_ATT_PRP },
+    { "begin", "downlink", "downlink", 0, CHZ_ISSUED, CHZ_DL_DATA_QUE },
+    { "begin", "downlinks", "downlinks", 0, CHZ_ISSUED, CHZ_DL_DATA_QUE },
 };
 
 static void prepare(const struct step *s, unsigned size)

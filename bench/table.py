@@ -11,6 +11,8 @@ READS = [
     ("the same, signal figures as float 32", "singles", 40),
     ("the same, signal figures as integers", "wholes", 40),
     ("ulData, 245 bytes of user data", "ulData", 245),
+    ("dlDataQue, one entry of 20 bytes", "downlink", 20),
+    ("dlDataQue, 16 entries of 50 bytes", "downlinks", 16),
     ("ping with 500 unknown pairs", "pairs", 500),
 ]
 WRITES = [
@@ -18,6 +20,8 @@ WRITES = [
     ("conRsp", "conRsp", 0),
     ("ulData, 40 bytes of user data", "ulData", 40),
     ("ulData, 245 bytes of user data", "ulData", 245),
+    ("dlDataQue, one entry of 20 bytes", "downlink", 20),
+    ("dlDataQue, 16 entries of 50 bytes", "downlinks", 16),
 ]
 STEPS = [
     ("chz_arrive, ping", "arrive", "ping", 0),
@@ -26,9 +30,22 @@ STEPS = [
     ("chz_arrive, con that resumes", "arrive", "resume", 0),
     ("chz_begin, ping", "begin", "ping", 0),
     ("chz_begin, attPrp", "begin", "attPrp", 0),
+    ("chz_begin, dlDataQue with an entry of 20 bytes", "begin", "downlink", 20),
+    ("chz_begin, dlDataQue with 16 entries of 50 bytes", "begin", "downlinks", 16),
     ("chz_lost, an open session", "lost", "open", 0),
 ]
 FRAME = ("chz_frame, ulData with 40 bytes", "frame", "rows", 1)
+QUEUES = [
+    ("chz_add, one entry of 20 bytes", "add", "least", (0, 31)),
+    ("chz_add, 16 entries of 50 bytes", "add", "great", (0, 31)),
+    ("chz_add, refused 28", "add", "least", (32,)),
+    ("chz_cancel, the last", "cancel", "least", (1, 32)),
+    ("chz_choose, the last, one entry each", "choose", "least", (1, 32)),
+    ("chz_choose, the last, 16 counters each", "choose", "great", (1, 32)),
+    ("chz_choose, refused 30", "choose", "others", (32,)),
+    ("chz_sound, one entry of 20 bytes each", "sound", "least", (0, 32)),
+    ("chz_sound, 16 entries of 50 bytes each", "sound", "great", (32,)),
+]
 STACKS = [
     FRAME,
     ("chz_form, con", "form", "con", 0),
@@ -37,11 +54,17 @@ STACKS = [
     ("chz_read, con", "read", "con", 0),
     ("chz_read, ulData with 245 bytes", "read", "ulData", 245),
     ("chz_read, ping nested eight levels deep", "read", "nested", 6),
+    ("chz_read, dlDataQue with 16 entries of 50 bytes", "read", "downlinks", 16),
     ("chz_write, detRsp", "write", "detRsp", 0),
     ("chz_write, conRsp", "write", "conRsp", 0),
     ("chz_write, ulData with 40 bytes", "write", "ulData", 40),
     ("chz_write, ulData with 245 bytes", "write", "ulData", 245),
+    ("chz_write, dlDataQue with 16 entries of 50 bytes", "write", "downlinks", 16),
     *STEPS,
+    ("chz_add, 16 entries of 50 bytes, 31 wait", "add", "great", 31),
+    ("chz_cancel, 32 wait", "cancel", "least", 32),
+    ("chz_choose, 32 wait with 16 counters each", "choose", "great", 32),
+    ("chz_sound, 32 wait with 16 entries of 50 bytes each", "sound", "great", 32),
     ("chz_uplink, 1,000 rows", "uplink", "rows", 1000),
 ]
 HAVE_ROOM = ("write", "arrive", "begin")
@@ -49,6 +72,8 @@ GROWTH = [
     ("reading: a byte of user data", "ulData", ("read", "unpack", "check"), 0, 245),
     ("reading: an unknown pair", "pairs", ("read", "unpack", "check"), 0, 500),
     ("writing: a byte of user data", "ulData", ("write", "fixed"), 40, 245),
+    ("reading: a counter and its data entry of 50 bytes", "downlinks", ("read", "unpack", "check"), 1, 16),
+    ("writing: a counter and its data entry of 50 bytes", "downlinks", ("write", "fixed"), 1, 16),
 ]
 
 
@@ -102,6 +127,18 @@ def sessions(counts):
     ])
 
 
+def queues(counts):
+    print("### Downlink queue\n")
+    rows = []
+    for label, what, name, sizes in QUEUES:
+        rows += [[label, size, cost(counts, what, name, size), cost_c(counts, what, name, size)] for size in sizes]
+    table(["call", "entries that wait", "library", "plain C"], rows)
+
+
+def cost_c(counts, what, name, size):
+    return None if what == "sound" else cost(counts, what + "_c", name, size)
+
+
 def stacks(counts):
     print("### Stack\n")
     rows = []
@@ -134,18 +171,20 @@ def growth(counts):
         found = [slope(counts, what, name, first, last) for what in whats]
         rows.append([label] + (found + [None])[:3])
     rows.append(["crediting: a row", slope(counts, "uplink", "rows", 100, 38000), None, None])
+    rows.append(["choosing: an entry that waits", slope(counts, "choose", "least", 1, 32), None, None])
+    rows.append(["choosing: an entry that waits, with 16 counters", slope(counts, "choose", "great", 1, 32), None, None])
     table(["one more", "library", "msgpack-c (unpack; fixed buffer)", "msgpuck mp_check"], rows)
-    bends = [bend(counts, "read", "ulData", 0, 245), bend(counts, "read", "pairs", 0, 500),
-             bend(counts, "uplink", "rows", 100, 38000)]
-    print("The library's counts between the ends lie off the straight line by at most {:.1f} % (user data), {:.1f} % (pairs) "
-          "and {:.1f} % (rows).\n".format(*bends))
+    bends = [bend(counts, "read", "ulData", 0, 245), bend(counts, "read", "pairs", 0, 500), bend(counts, "read", "downlinks", 1, 16),
+             bend(counts, "uplink", "rows", 100, 38000), bend(counts, "choose", "least", 1, 32)]
+    print("The library's counts between the ends lie off the straight line by at most {:.1f} % (user data), {:.1f} % (pairs), "
+          "{:.1f} % (data entries), {:.1f} % (rows) and {:.1f} % (entries that wait).\n".format(*bends))
 
 
 def empties(counts):
     print("Taken off, the round with an empty call of the same shape: " + ", ".join(
         f"{label} {empty(counts, what)}" for label, what in
         [("reading", "read"), ("writing", "write"), ("crediting", "uplink"), ("chz_arrive", "arrive"), ("chz_begin", "begin"),
-         ("chz_lost", "lost")]) +
+         ("chz_lost", "lost"), ("chz_add", "add"), ("chz_cancel", "cancel"), ("chz_choose", "choose"), ("chz_sound", "sound")]) +
         f"; the stream's 16 frames together {empty(counts, 'stream')}.\n")
 
 
@@ -155,7 +194,7 @@ def main():
         for line in lines:
             print("- " + line.rstrip())
     print()
-    for part in (reads, writes, tables, sessions, growth, empties, stacks):
+    for part in (reads, writes, tables, sessions, queues, growth, empties, stacks):
         part(counts)
 
 

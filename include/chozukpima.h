@@ -2,19 +2,21 @@
  * docs/HOST.md shows the loop that a host writes around these calls, and what it must store before it sends a reply.
  *
  * Every buffer is lent for one call and none is kept. The buffers of one call must not overlap, not even two that are only
- * read, such as uuid and sign. Every call may be handed any contents: what is bad is refused by its number, and a refused call
- * changes no lent byte. NULL with length 0 is a buffer of no bytes and never crashes. It answers 1 in chz_frame and 3 in chz_form;
- * 15 for a session, a message, a uuid or a sign; in chz_read 15 for data, and 3 for a payload where the others are good. Data that
- * a message does not say may be NULL in chz_write, chz_arrive and chz_begin. A room of no bytes is 20 where a frame is to be
- * written. A table of five such columns has no rows, so chz_find, chz_withdraw and chz_uplink answer 21 and chz_enrol 23.
+ * read, such as uuid and sign. Every call may be handed any contents (of a queue, see chz_sound): what is bad is refused by its
+ * number, and a refused call changes no lent byte. NULL with length 0 is a buffer of no bytes and never crashes. It answers 1 in
+ * chz_frame and 3 in chz_form; 15 for a session, a message, a uuid, a sign or a queue; in chz_read 15 for data, and 3 for a payload
+ * where the others are good. Data that a message does not say may be NULL in chz_write, chz_arrive and chz_begin. A room of no bytes is
+ * 20 where a frame is to be written. A table of five such columns has no rows, so chz_find, chz_withdraw and chz_uplink answer 21 and
+ * chz_enrol 23.
  *
  * No answer depends on the floating point mode (MXCSR) that the host runs in. Nothing is allocated. 6 kB of stack are enough for
- * every call; measured: chz_arrive 3.5 kB, chz_begin 2.2, chz_write 1.9, chz_read 1.7, the others below 1. */
+ * every call; measured: chz_begin 3.1 kB, chz_write 3.0, chz_read 1.5, chz_arrive 1.2, the others below 1. */
 #ifndef CHOZUKPIMA_H
 #define CHOZUKPIMA_H
 
 #include <stddef.h>
 #include <stdint.h>
+#include <string.h>
 
 #ifdef __cplusplus
 #define CHZ_SAME(what, number) static_assert((what) == (number), #what)
@@ -51,7 +53,11 @@ enum chz_refusal {
     CHZ_NO_FREE_ROW = 23,
     CHZ_UNEQUAL_COLUMNS = 24,
     CHZ_STATION_NUMBER = 25,
-    CHZ_STALE = 26
+    CHZ_STALE = 26,
+    CHZ_QUEUE_ID_THERE = 27,
+    CHZ_QUEUE_FULL = 28,
+    CHZ_NO_QUEUE_ID = 29,
+    CHZ_NOTHING_SUITABLE = 30
 };
 
 /* The commands by number, as chz_message.command has them. */
@@ -76,7 +82,10 @@ enum chz_command {
     CHZ_DET_PRP_RSP = 17,
     CHZ_DET_PRP_CMP = 18,
     CHZ_UL_DATA_RSP = 19,
-    CHZ_UL_DATA_CMP = 20
+    CHZ_UL_DATA_CMP = 20,
+    CHZ_DL_DATA_QUE = 21,
+    CHZ_DL_DATA_QUE_RSP = 22,
+    CHZ_DL_DATA_QUE_CMP = 23
 };
 
 /* Every call answers one number: bits 0 to 7 the refusal, 8 to 15 what happened, 16 to 63 the value: a length, a count, a row or
@@ -116,7 +125,7 @@ static inline const char *chz_refusal_name(unsigned refusal) {
         "key not text", "outer element not a map", "bytes left over", "no command", "unknown command", "key twice",
         "field missing", "invalid value", "version not 1.0", "does not fit the state", "operation ID out of order",
         "sixteen operations open", "room too short", "no such meter", "already enrolled", "no free row", "columns of unequal length",
-        "station number over 63", "stale counter",
+        "station number over 63", "stale counter", "queue ID already there", "queue full", "no such queue ID", "nothing suitable",
     };
     return refusal < sizeof names / sizeof *names ? names[refusal] : "unknown";
 }
@@ -126,6 +135,7 @@ static inline const char *chz_command_name(unsigned command) {
     static const char *const names[] = {
         "con", "conRsp", "statusRsp", "det", "detRsp", "attPrp", "detPrp", "ulData", "conCmp", "ping", "pingRsp", "pingCmp",
         "status", "statusCmp", "detCmp", "attPrpRsp", "attPrpCmp", "detPrpRsp", "detPrpCmp", "ulDataRsp", "ulDataCmp",
+        "dlDataQue", "dlDataQueRsp", "dlDataQueCmp",
     };
     return command < sizeof names / sizeof *names ? names[command] : "unknown";
 }
@@ -140,8 +150,16 @@ static inline const char *chz_step_name(unsigned happened) {
     return happened < sizeof names / sizeof *names ? names[happened] : "unknown";
 }
 
-/* The most bytes of user data, or of a status text, that stand beside a message. */
-#define CHZ_DATA 245
+/* The most bytes of a data entry: of ulData's user data, and of each of dlDataQue's. */
+#define CHZ_USER_DATA 245
+
+/* The most counters, the most data entries, and the most bytes of all data entries together, of a dlDataQue. */
+#define CHZ_COUNTERS 16
+#define CHZ_ENTRIES 16
+#define CHZ_ENTRY_BYTES 800
+
+/* The bytes that stand beside a message: user data, a status text, or a downlink's counters and data entries. */
+#define CHZ_DATA 880
 
 /* What det and ulData tell of a received packet. In this and the structs below, a field that may be absent has a mark has_...;
  * where that is 0, all bits of the field are 0. These marks, and fields that say yes or no, are 0 or 1. All else is 15.
@@ -236,15 +254,45 @@ typedef struct chz_det_prp {
 
 typedef struct chz_ul_data {
     chz_packet packet;
-    uint8_t user_len; /* bytes of user data in data, at most CHZ_DATA */
+    uint8_t user_len; /* bytes of user data in data, at most CHZ_USER_DATA */
     uint8_t format;   /* of the user data; 0 where none was sent */
     uint8_t dl_open;
     uint8_t response_exp; /* only with dl_open */
     uint8_t dl_ack;
 } chz_ul_data;
 
+/* A downlink to be queued at a station. Where it is counter dependent, entry i is for packet counter dl.counter[i], and there is at
+ * least one; else there is one entry, for any counter. An entry of no bytes is a pure acknowledgement. chz_valve fills a plain one;
+ * chz_downlink and chz_downlink_entry_for fill one that is counter dependent. */
+typedef struct chz_dl_data_que {
+    uint64_t ep_eui;    /* meter */
+    uint64_t que_id;    /* the host's number for it, to cancel it by; give each downlink another */
+    double prio;        /* higher goes first. Exactly a float: 0.1f is one, 0.1 is 15. 0 where none was sent, and 0 is not sent */
+    uint8_t entries;    /* data entries in dl, 1 to CHZ_ENTRIES; 1 where it is not counter dependent */
+    uint8_t format;     /* of the user data; 0 where none was sent */
+    uint8_t cnt_depend; /* the data are for the counters beside them */
+    uint8_t has_response_exp;
+    uint8_t response_exp; /* the meter is to answer */
+    uint8_t has_response_prio;
+    uint8_t response_prio; /* it is to answer with priority */
+    uint8_t has_dl_wind_req;
+    uint8_t dl_wind_req; /* it is to open a further downlink window */
+    uint8_t has_exp_only;
+    uint8_t exp_only; /* to be sent only if the meter expects a response */
+} chz_dl_data_que;
+
+/* What stands beside a dlDataQue, as many of each as it has entries; the rest is not looked at, nor are the counters of one that is
+ * not counter dependent. chz_read sets the counters and lengths that are not used to 0 and leaves what is behind the last entry. The
+ * bytes behind the last entry may be missing: data of a dlDataQue are 80 bytes and the sum of its lengths, or more. */
+typedef struct chz_dl_entries {
+    uint32_t counter[CHZ_COUNTERS]; /* the packet counter that each entry is for; one that repeats counts where it stands first */
+    uint8_t length[CHZ_ENTRIES];    /* bytes of each entry, at most CHZ_USER_DATA */
+    uint8_t bytes[CHZ_ENTRY_BYTES]; /* the entries one behind the other, at most CHZ_ENTRY_BYTES together */
+} chz_dl_entries;
+
 /* A message: op_id, command, and the fields of the union's member with the command's name; other commands have no fields.
- * Nothing else is looked at. User data or the status text goes into data, its length into user_len or message_len. */
+ * Nothing else is looked at. User data or the status text goes into data, its length into user_len or message_len; a downlink's
+ * counters and data entries go into dl. */
 typedef struct chz_message {
     int64_t op_id;
     uint8_t command; /* enum chz_command */
@@ -258,8 +306,12 @@ typedef struct chz_message {
         chz_att_prp att_prp;
         chz_det_prp det_prp;
         chz_ul_data ul_data;
+        chz_dl_data_que dl_data_que;
     };
-    uint8_t data[CHZ_DATA];
+    union {
+        uint8_t data[CHZ_DATA];
+        chz_dl_entries dl;
+    };
 } chz_message;
 
 /* The bytes of a chz_message in front of its data. */
@@ -306,6 +358,12 @@ CHZ_SAME(offsetof(chz_att_prp, last_packet_cnt), 24);
 CHZ_SAME(offsetof(chz_att_prp, long_blk_dist), 34);
 CHZ_SAME(offsetof(chz_ul_data, user_len), 72);
 CHZ_SAME(offsetof(chz_ul_data, dl_ack), 76);
+CHZ_SAME(offsetof(chz_dl_data_que, entries), 24);
+CHZ_SAME(offsetof(chz_dl_data_que, exp_only), 34);
+CHZ_SAME(sizeof(chz_dl_entries), CHZ_DATA);
+CHZ_SAME(offsetof(chz_dl_entries, length), 64);
+CHZ_SAME(offsetof(chz_dl_entries, bytes), 80);
+CHZ_SAME(sizeof(chz_message), CHZ_MESSAGE + CHZ_DATA);
 CHZ_SAME(sizeof(chz_session), 368);
 CHZ_SAME(offsetof(chz_session, station_id), 24);
 CHZ_SAME(offsetof(chz_session, centre_id), 152);
@@ -318,8 +376,8 @@ CHZ_SAME(offsetof(chz_session, reserved), 346);
 #define CHZ_FRAME_HEAD 12
 #define CHZ_INPUT 4108
 
-/* A room of so many bytes is enough for every frame that is written. */
-#define CHZ_ROOM 1012
+/* The longest frame that is written: a room of so many bytes is enough for each, and a dlDataQue with everything needs them all. */
+#define CHZ_ROOM 1909
 
 /* A frame at the start of the bytes: the value is how many bytes it takes; its payload is all of them behind CHZ_FRAME_HEAD.
  * Refusals 1 (wait for more bytes), 2, 3. */
@@ -348,7 +406,7 @@ uint64_t chz_arrive(uint8_t *session, size_t session_len, const uint8_t *message
                     size_t data_len, uint64_t sc_eui, const uint8_t *uuid, size_t uuid_len, const uint8_t *sign, size_t sign_len,
                     uint8_t *room, size_t room_len);
 
-/* The centre starts ping, status, attPrp or detPrp: the value is how many bytes stand in the room, under the ID issued
+/* The centre starts ping, status, attPrp, detPrp or dlDataQue: the value is how many bytes stand in the room, under the ID issued
  * (session.lowest), whatever op_id was handed in. Refusals 17, 18, 19, 15, 20; bytes that are no session or a buffer of a wrong
  * length are 15 before these. */
 uint64_t chz_begin(uint8_t *session, size_t session_len, const uint8_t *message, size_t message_len, const uint8_t *data,
@@ -357,6 +415,43 @@ uint64_t chz_begin(uint8_t *session, size_t session_len, const uint8_t *message,
 /* The connection is lost: the session waits, to be resumed. A session that a host loads after a restart goes through this call
  * first: it was open when it was stored. Refusal 15. */
 uint64_t chz_lost(uint8_t *session, size_t session_len);
+
+/* The downlink queue of a station: what waits for its meters until one of them opens a window. All zeros is an empty one. Each of its
+ * CHZ_QUEUE places is a message, used exactly if its command is CHZ_DL_DATA_QUE; only the calls change it, each at most one place,
+ * which its answer names. It is no part of the session, which is asked to send what was chosen (chz_begin). A queue takes 31,488 bytes,
+ * those of 64 stations 2,015,232. Every call costs a walk over the places, not over their data. */
+#define CHZ_QUEUE 32
+
+typedef struct chz_queue {
+    chz_message entry[CHZ_QUEUE];
+} chz_queue;
+
+CHZ_SAME(sizeof(chz_queue), 31488);
+
+/* Takes the lowest free place for a dlDataQue; the value is the place. Its op_id is kept and not looked at. Refusals 15 (a bad record,
+ * or one of another command), 27 (another entry has this queue ID, whatever its meter), 28 (all places are used). A queue that is not
+ * sizeof(chz_queue) bytes long is 15 in this call and the next two. */
+uint64_t chz_add(uint8_t *queue, size_t queue_len, const uint8_t *message, size_t message_len, const uint8_t *data, size_t data_len);
+
+/* Frees the place of a queue ID; the value is the place. Refusals 15, 29. */
+uint64_t chz_cancel(uint8_t *queue, size_t queue_len, uint64_t que_id);
+
+/* Chooses what is sent to a meter in the downlink window of its packet counter: of the entries for this meter that are not counter
+ * dependent or name this counter, and are not exp_only unless the meter expects a response (expected not 0), the one with the highest
+ * prio, then the smallest queue ID. It is removed: its place is free, and all but its command still stands there until the next
+ * chz_add. The value says where (chz_chosen_place, chz_chosen_from, chz_chosen_len). Entries whose counters have passed stay until they
+ * are cancelled. Refusals 15, 30. */
+uint64_t chz_choose(uint8_t *queue, size_t queue_len, uint64_t meter, uint32_t counter, uint8_t expected);
+
+/* Whether these bytes are a queue: of its length, each entry may be written, no queue ID stands twice. The value is 1 or 0; it is 1 of
+ * every queue that the calls made from an empty one. For a host that loads a queue, once: of other contents the calls promise only to
+ * stay in range and to end, and that chz_choose answers an entry that stands there; where its data are said to be is then not promised. */
+uint64_t chz_sound(const uint8_t *queue, size_t queue_len);
+
+/* The place that was chosen, and its data for the counter: their place among the bytes beside the message, and their length. */
+static inline unsigned chz_chosen_place(uint64_t answer) { return (unsigned)(chz_value(answer) & 0xFF); }
+static inline unsigned chz_chosen_len(uint64_t answer) { return (unsigned)(chz_value(answer) >> 8 & 0xFF); }
+static inline unsigned chz_chosen_from(uint64_t answer) { return (unsigned)(chz_value(answer) >> 16); }
 
 /* The meter table: five columns of the host's, equally long (else 24). used: 0 is free; heard: one bit a station. */
 
@@ -413,6 +508,100 @@ static inline uint64_t chz_session_begin(chz_session *session, const chz_message
 }
 
 static inline uint64_t chz_session_lost(chz_session *session) { return chz_lost((uint8_t *)session, sizeof *session); }
+
+/* A downlink is filled in two or three lines, then added to a queue or started in a session:
+ *     chz_valve(&m, meter, que_id, shut, sizeof shut);
+ *     m.dl_data_que.prio = 2;
+ * or, with data for several packet counters:
+ *     chz_downlink(&m, meter, que_id);
+ *     for (i = 0; i < 4; i++) chz_downlink_entry_for(&m, next + i, shut_at[i], sizeof shut_at[i]);
+ * chz_downlink begins one: no entries, all else 0. */
+static inline void chz_downlink(chz_message *message, uint64_t ep_eui, uint64_t que_id) {
+    memset(message, 0, sizeof *message);
+    message->command = CHZ_DL_DATA_QUE;
+    message->dl_data_que.ep_eui = ep_eui;
+    message->dl_data_que.que_id = que_id;
+}
+
+/* One data entry more, behind those that are there. For the two calls below. */
+static inline unsigned chz_downlink_append(chz_message *message, const uint8_t *data, size_t data_len) {
+    size_t used = 0, i, n = message->dl_data_que.entries;
+    if (n >= CHZ_ENTRIES || data_len > CHZ_USER_DATA) return CHZ_INVALID;
+    for (i = 0; i < n; i++) used += message->dl.length[i];
+    if (used + data_len > CHZ_ENTRY_BYTES) return CHZ_INVALID;
+    if (data_len) memcpy(message->dl.bytes + used, data, data_len);
+    message->dl.length[n] = (uint8_t)data_len;
+    message->dl_data_que.entries = (uint8_t)(n + 1);
+    return CHZ_DONE;
+}
+
+/* The only data entry, for any packet counter. CHZ_DONE, or CHZ_INVALID where it is too long or not the first, and nothing changes. */
+static inline unsigned chz_downlink_entry(chz_message *message, const uint8_t *data, size_t data_len) {
+    if (message->dl_data_que.entries) return CHZ_INVALID;
+    return chz_downlink_append(message, data, data_len);
+}
+
+/* One data entry more, for one packet counter: the downlink is counter dependent. CHZ_DONE, or CHZ_INVALID where there is no place for
+ * it (CHZ_ENTRIES, CHZ_USER_DATA, CHZ_ENTRY_BYTES) or the entry before it is for any counter, and nothing changes. */
+static inline unsigned chz_downlink_entry_for(chz_message *message, uint32_t counter, const uint8_t *data, size_t data_len) {
+    size_t n = message->dl_data_que.entries;
+    if (n && !message->dl_data_que.cnt_depend) return CHZ_INVALID;
+    if (chz_downlink_append(message, data, data_len) != CHZ_DONE) return CHZ_INVALID;
+    message->dl.counter[n] = counter;
+    message->dl_data_que.cnt_depend = 1;
+    return CHZ_DONE;
+}
+
+/* A plain valve command: one meter, one data entry, for any counter. CHZ_DONE, or CHZ_INVALID for more than CHZ_USER_DATA bytes. */
+static inline unsigned chz_valve(chz_message *message, uint64_t ep_eui, uint64_t que_id, const uint8_t *data, size_t data_len) {
+    chz_downlink(message, ep_eui, que_id);
+    return chz_downlink_entry(message, data, data_len);
+}
+
+/* What chz_queue_choose chose: the entry with its ID, format, prio and flags, and its data for the counter. Both stand in the queue
+ * until the next chz_queue_add. */
+typedef struct chz_chosen {
+    const chz_dl_data_que *entry;
+    const uint8_t *data;
+    size_t data_len;
+} chz_chosen;
+
+static inline uint64_t chz_queue_add(chz_queue *queue, const chz_message *message) {
+    return chz_add((uint8_t *)queue, sizeof *queue, (const uint8_t *)message, CHZ_MESSAGE, message->data, CHZ_DATA);
+}
+
+static inline uint64_t chz_queue_cancel(chz_queue *queue, uint64_t que_id) {
+    return chz_cancel((uint8_t *)queue, sizeof *queue, que_id);
+}
+
+/* chosen is set where the answer is no refusal. An entry of a queue that is not sound may say more data than stand beside it: none are
+ * shown. */
+static inline uint64_t chz_queue_choose(chz_queue *queue, uint64_t meter, uint32_t counter, int expected, chz_chosen *chosen) {
+    uint64_t answer = chz_choose((uint8_t *)queue, sizeof *queue, meter, counter, expected != 0);
+    if (!chz_refused(answer)) {
+        const chz_message *m = &queue->entry[chz_chosen_place(answer)];
+        const size_t from = chz_chosen_from(answer), len = chz_chosen_len(answer);
+        const int there = from + len <= CHZ_DATA;
+        chosen->entry = &m->dl_data_que;
+        chosen->data = there ? m->data + from : m->data;
+        chosen->data_len = there ? len : 0;
+    }
+    return answer;
+}
+
+static inline int chz_queue_sound(const chz_queue *queue) { return chz_value(chz_sound((const uint8_t *)queue, sizeof *queue)) == 1; }
+
+/* What was chosen as a message to start in the session, which is none of the queue's own: as it was queued, with the chosen data alone,
+ * and for this counter where it is counter dependent. A host that lets the station use a later window copies the queue's whole place
+ * instead and sets its command. */
+static inline void chz_chosen_message(const chz_chosen *chosen, uint32_t counter, chz_message *message) {
+    chz_downlink(message, chosen->entry->ep_eui, chosen->entry->que_id);
+    message->dl_data_que = *chosen->entry;
+    message->dl_data_que.entries = 1;
+    if (message->dl_data_que.cnt_depend) message->dl.counter[0] = counter;
+    message->dl.length[0] = (uint8_t)chosen->data_len;
+    if (chosen->data_len) memcpy(message->dl.bytes, chosen->data, chosen->data_len);
+}
 
 static inline uint64_t chz_table_find(const chz_table *t, uint64_t meter) {
     return chz_find(t->used, t->rows, t->eui, t->rows, t->sh_addr, t->rows, t->last, t->rows, t->heard, t->rows, meter);

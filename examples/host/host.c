@@ -1,4 +1,4 @@
-/* The loop that a host writes around the library: bytes in, frames, messages, session steps, credited readings; all that
+/* The loop that a host writes around the library: bytes in, frames, messages, session steps, credited readings, downlinks; all that
  * changed is stored; then replies out. */
 #include <inttypes.h>
 #include <stdio.h>
@@ -29,6 +29,17 @@ static const struct operation *operation_of(uint8_t start)
     return NULL;
 }
 
+/* A queue comes from the store as the calls left it, or the store is damaged: this is the one time to ask. */
+static void load_queue(unsigned number)
+{
+    chz_queue *queue = &host_stations[number].queue;
+    for (size_t place = 0; place < CHZ_QUEUE; place++) outside_load_place(number, place);
+    if (chz_queue_sound(queue)) return;
+    printf("%u: ALARM, this is no queue; it starts empty\n", number);
+    memset(queue, 0, sizeof *queue);
+    for (size_t place = 0; place < CHZ_QUEUE; place++) outside_store(&(struct change){ .number = number, .row = HOST_NO_ROW, .place = place });
+}
+
 /* A session that was stored open says so; but its connection ended with the program, so it must wait, or its con is refused. */
 void host_start(void)
 {
@@ -37,6 +48,7 @@ void host_start(void)
     for (unsigned number = 0; number < HOST_STATIONS; number++) {
         outside_load_session(number, &host_stations[number].session);
         chz_session_lost(&host_stations[number].session);
+        load_queue(number);
     }
 }
 
@@ -45,7 +57,7 @@ static void store_row(uint64_t meter, const char *what, uint64_t answer)
     const char *why = chz_refusal_name(chz_refused(answer));
     if (!chz_refused(answer)) {
         size_t row = chz_value(answer);
-        if (outside_store(&(struct change){ .row = row })) return;
+        if (outside_store(&(struct change){ .row = row, .place = HOST_NO_PLACE })) return;
         outside_load_row(row);
         why = "not stored";
     }
@@ -60,6 +72,36 @@ void host_enrol(uint64_t meter, uint16_t sh_addr, uint32_t last_billed)
 void host_withdraw(uint64_t meter)
 {
     store_row(meter, "withdrawn", chz_table_withdraw(&host_meters, meter));
+}
+
+/* chz_add and chz_cancel name the place that they changed. */
+static void store_place(unsigned number, uint64_t que_id, const char *what, uint64_t answer)
+{
+    const char *why = chz_refusal_name(chz_refused(answer));
+    if (!chz_refused(answer)) {
+        size_t place = chz_value(answer);
+        if (outside_store(&(struct change){ .number = number, .row = HOST_NO_ROW, .place = place })) {
+            printf("%u: downlink %" PRIu64 " %s\n", number, que_id, what);
+            return;
+        }
+        outside_load_place(number, place);
+        why = "not stored";
+    }
+    printf("%u: downlink %" PRIu64 " not %s: %s\n", number, que_id, what, why);
+}
+
+/* "Shut this valve": the command waits until the meter opens a window at this station. */
+void host_shut(unsigned number, uint64_t meter, uint64_t que_id)
+{
+    static const uint8_t shut[] = { 0x56, 0x00 }; /* what a valve understands, its maker says */
+    chz_message m;
+    chz_valve(&m, meter, que_id, shut, sizeof shut);
+    store_place(number, que_id, "queued", chz_queue_add(&host_stations[number].queue, &m));
+}
+
+void host_cancel(unsigned number, uint64_t que_id)
+{
+    store_place(number, que_id, "cancelled", chz_queue_cancel(&host_stations[number].queue, que_id));
 }
 
 /* The session stays: the station may come back and resume it. Bytes of a frame that was never whole are worth nothing. */
@@ -165,28 +207,96 @@ static bool step_refused(unsigned number, const chz_message *m, unsigned refusal
     return false;
 }
 
-/* After a resume the centre, too, sends again what has no answer, under the ID that it had. */
+/* What isn't stored hasn't happened. A commit that seems to have failed may have happened, so all that it spoke of is read back. The
+ * station has no reply, so it comes back, resumes and sends again. */
+static void take_back(unsigned number, size_t row, size_t place)
+{
+    outside_load_session(number, &host_stations[number].session);
+    if (row != HOST_NO_ROW) outside_load_row(row);
+    if (place != HOST_NO_PLACE) outside_load_place(number, place);
+    close_connection(number);
+}
+
+/* The centre starts an operation; the library chooses its ID, and the ID is stored before the station sees it. place: where a downlink
+ * was chosen, which is in the same transaction. */
+static bool begin(unsigned number, const chz_message *message, size_t place)
+{
+    struct station *s = &host_stations[number];
+    const char *name = chz_command_name(message->command);
+    uint8_t room[CHZ_ROOM];
+    uint64_t answer = chz_session_begin(&s->session, message, room, sizeof room);
+    if (chz_refused(answer)) {
+        printf("%u: %s not started, refused %u, %s\n", number, name, chz_refused(answer), chz_refusal_name(chz_refused(answer)));
+        if (place != HOST_NO_PLACE) outside_load_place(number, place); /* it waits again */
+        return false;
+    }
+    chz_message asked = *message;
+    asked.op_id = s->session.lowest;
+    if (!outside_store(&(struct change){ number, &s->session, HOST_NO_ROW, place, HOST_ASKED, &asked })) {
+        printf("%u: %s not started, not stored\n", number, name);
+        take_back(number, HOST_NO_ROW, place);
+        return false;
+    }
+    printf("%u: %s %" PRId64 " %s\n", number, name, asked.op_id, chz_step_name(chz_happened(answer)));
+    outside_send(number, room, chz_value(answer));
+    return true;
+}
+
+void host_begin(unsigned number, const chz_message *message)
+{
+    begin(number, message, HOST_NO_PLACE);
+}
+
+/* What a reading says of downlinks: whether the meter heard the last one, and whether it listens now. Then what waits for it is chosen
+ * and started. A downlink is either in the queue or among what was asked: it goes from one to the other in one transaction. */
+static void take_window(unsigned number, const chz_message *m)
+{
+    const chz_packet *p = &m->ul_data.packet;
+    chz_message downlink;
+    chz_chosen chosen;
+    if (m->ul_data.dl_ack) printf("%u: meter %016" PRIX64 " heard its downlink\n", number, p->ep_eui);
+    if (!m->ul_data.dl_open) return;
+    chz_queue *queue = &host_stations[number].queue;
+    uint64_t answer = chz_queue_choose(queue, p->ep_eui, p->packet_cnt, m->ul_data.response_exp, &chosen);
+    if (chz_refused(answer)) return; /* 30: nothing waits for this meter */
+    chz_chosen_message(&chosen, p->packet_cnt, &downlink);
+    printf("%u: downlink %" PRIu64 " chosen\n", number, downlink.dl_data_que.que_id);
+    begin(number, &downlink, chz_chosen_place(answer));
+}
+
+static bool is_open(const chz_session *session, const chz_message *asked)
+{
+    for (int i = 0; asked->op_id && i < 16; i++)
+        if (session->centre_id[i] == asked->op_id && session->centre_kind[i] == asked->command) return true;
+    return false;
+}
+
+/* After a resume the centre, too, sends again what has no answer: all that is open, under the ID that it had. */
 static void send_again(unsigned number)
 {
-    const chz_session *session = &host_stations[number].session;
     uint8_t room[CHZ_ROOM];
-    for (int i = 0; i < 16; i++) {
-        chz_message m;
-        if (!session->centre_id[i] || !outside_load_asked(number, session->centre_id[i], &m)) continue;
+    chz_message m;
+    for (size_t at = 0; outside_load_asked(number, &at, &m); at++) {
+        if (!is_open(&host_stations[number].session, &m)) continue;
         uint64_t answer = chz_message_write(&m, room, sizeof room);
         printf("%u: %s %" PRId64 " again\n", number, chz_command_name(m.command), m.op_id);
         if (!chz_refused(answer)) outside_send(number, room, chz_value(answer));
     }
 }
 
-/* What isn't stored hasn't happened. The station has no reply, so it comes back, resumes and sends again. */
-static bool take_back(unsigned number, const chz_session *before, size_t row)
+/* A downlink without an answer that is not open was asked in a session that is gone. */
+static bool find_left(unsigned number, chz_message *m)
 {
-    printf("%u: not stored, not answered\n", number);
-    host_stations[number].session = *before;
-    if (row != HOST_NO_ROW) outside_load_row(row);
-    close_connection(number);
+    for (size_t at = 0; outside_load_asked(number, &at, m); at++)
+        if (m->command == CHZ_DL_DATA_QUE && !is_open(&host_stations[number].session, m)) return true;
     return false;
+}
+
+/* It is started again, under a new ID: when the new session opens, or as soon as an answer makes a place free for it. */
+static void start_left(unsigned number)
+{
+    chz_message m;
+    while (find_left(number, &m) && begin(number, &m, HOST_NO_PLACE)) continue;
 }
 
 /* One message. False: the connection is closed. With threads, the station's lock is held all the way, the table's from before
@@ -195,7 +305,7 @@ static bool take_message(unsigned number, const uint8_t *payload, size_t len)
 {
     struct station *s = &host_stations[number];
     const chz_session before = s->session;
-    struct change change = { number, &s->session, HOST_NO_ROW, HOST_NO_LIST, NULL };
+    struct change change = { number, &s->session, HOST_NO_ROW, HOST_NO_PLACE, HOST_NO_LIST, NULL };
     chz_message m;
     uint8_t room[CHZ_ROOM];
     uint64_t answer = chz_message_read(payload, len, &m);
@@ -211,11 +321,18 @@ static bool take_message(unsigned number, const uint8_t *payload, size_t len)
     const char *step = chz_happened(answer) ? chz_step_name(chz_happened(answer)) : "again";
     printf("%u: %s %" PRId64 " %s\n", number, chz_command_name(m.command), m.op_id, step);
     bool good = m.command != CHZ_UL_DATA || credit(number, &m, &change);
-    if (!good || !outside_store(&change)) return take_back(number, &before, change.row);
+    if (chz_happened(answer) == CHZ_ANSWERED) change.list = HOST_ANSWERED, change.message = &m;
+    if (!good || !outside_store(&change)) {
+        printf("%u: not stored, not answered\n", number);
+        take_back(number, change.row, HOST_NO_PLACE);
+        return false;
+    }
     /* Only now: behind the reply the station may forget the packet. */
     if (chz_value(answer)) outside_send(number, room, chz_value(answer));
-    if (s->resumed && chz_happened(answer) == CHZ_OPENED) send_again(number);
-    return true;
+    if (chz_happened(answer) == CHZ_OPENED) send_again(number);
+    if (chz_happened(answer) == CHZ_OPENED || chz_happened(answer) == CHZ_ANSWERED) start_left(number);
+    if (chz_happened(answer) == CHZ_STARTED && m.command == CHZ_UL_DATA) take_window(number, &m);
+    return s->session.state != CHZ_WAITING; /* it waits if one of the last two had to close */
 }
 
 /* All whole frames of the input; the rest moves to its start. False: the connection is closed. */
@@ -256,27 +373,4 @@ bool host_bytes(unsigned number, const uint8_t *bytes, size_t len)
         connected = take_frames(number);
     }
     return connected;
-}
-
-/* The centre starts an operation; the library chooses its ID, and the ID is stored before the station sees it. */
-void host_begin(unsigned number, const chz_message *message)
-{
-    struct station *s = &host_stations[number];
-    const chz_session before = s->session;
-    const char *name = chz_command_name(message->command);
-    uint8_t room[CHZ_ROOM];
-    uint64_t answer = chz_session_begin(&s->session, message, room, sizeof room);
-    if (chz_refused(answer)) {
-        printf("%u: %s not started, refused %u, %s\n", number, name, chz_refused(answer), chz_refusal_name(chz_refused(answer)));
-        return;
-    }
-    chz_message asked = *message;
-    asked.op_id = s->session.lowest;
-    if (!outside_store(&(struct change){ number, &s->session, HOST_NO_ROW, HOST_ASKED, &asked })) {
-        printf("%u: %s not started, not stored\n", number, name);
-        s->session = before;
-        return;
-    }
-    printf("%u: %s %" PRId64 " %s\n", number, name, asked.op_id, chz_step_name(chz_happened(answer)));
-    outside_send(number, room, chz_value(answer));
 }

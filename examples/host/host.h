@@ -13,7 +13,8 @@ enum {
 
 /* One base station. Its place in the array is its station number for good: the table's heard column has a bit for it. */
 struct station {
-    chz_session session; /* the store has the same */
+    chz_session session; /* the store has the same, */
+    chz_queue queue;     /* and of this: downlinks that wait until their meter opens a window here */
     /* Of this connection alone: */
     bool resumed;   /* it goes on with the stored session, so starts may come again */
     bool unsettled; /* and no new one has come yet */
@@ -32,6 +33,8 @@ void host_withdraw(uint64_t meter);
 bool host_bytes(unsigned number, const uint8_t *bytes, size_t len);
 void host_lost(unsigned number);
 void host_begin(unsigned number, const chz_message *message);
+void host_shut(unsigned number, uint64_t meter, uint64_t que_id); /* a valve; the ID is another for each downlink, for good */
+void host_cancel(unsigned number, uint64_t que_id);
 
 /* What one transaction stores: all of it, or nothing. */
 enum host_list {
@@ -39,13 +42,16 @@ enum host_list {
     HOST_BILLS,     /* credited packets */
     HOST_LATE,      /* not credited: a later one was */
     HOST_STRANGERS, /* not credited: no such meter */
-    HOST_ASKED      /* operations of the centre, each until it is answered */
+    HOST_ASKED,     /* operations of the centre, each until it is answered; a downlink that is started again stands there once */
+    HOST_ANSWERED   /* no list: what this message answers is taken off HOST_ASKED, by its ID */
 };
 #define HOST_NO_ROW SIZE_MAX
+#define HOST_NO_PLACE SIZE_MAX
 struct change {
     unsigned number;            /* the station */
     const chz_session *session; /* its session; NULL: none */
     size_t row;                 /* a row of host_meters; HOST_NO_ROW: none */
+    size_t place;               /* a place of its queue; HOST_NO_PLACE: none */
     enum host_list list;        /* the list that the message is appended to */
     const chz_message *message;
 };
@@ -54,7 +60,8 @@ struct change {
 bool outside_store(const struct change *change); /* true: it is stored, and outlives a crash */
 void outside_load_session(unsigned number, chz_session *session);
 void outside_load_row(size_t row); /* into host_meters */
-bool outside_load_asked(unsigned number, int64_t op_id, chz_message *message);
+void outside_load_place(unsigned number, size_t place); /* into the station's queue */
+bool outside_load_asked(unsigned number, size_t *at, chz_message *message); /* the next of HOST_ASKED, in the order issued */
 void outside_uuid(uint8_t uuid[16]);                        /* 16 fresh random bytes */
 void outside_sign(const chz_message *det, uint8_t sign[4]); /* from the key store */
 void outside_send(unsigned number, const uint8_t *bytes, size_t len);

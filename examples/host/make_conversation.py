@@ -63,10 +63,10 @@ def con(station, uuid, cut=None, **further):
     say(station, "con", 0, cut, version="1.0.2", bsEui=STATIONS[station], bidi=True, snBsUuid=bytes([uuid] * 16), **further)
 
 
-def heard(station, op_id, meter, counter, cut=None, **further):
+def heard(station, op_id, meter, counter, cut=None, window=False, ack=False, **further):
     # station 1 is of another maker, which sends whole numbers as integers
     say(station, "ulData", op_id, cut, epEui=meter, rxTime=1700000000000000000 + counter, packetCnt=counter, snr=12.5, rssi=[-97.0, -97][station],
-        userData=bytes([0x2F, counter & 255, 200]), dlOpen=False, responseExp=False, dlAck=False, **further)
+        userData=bytes([0x2F, counter & 255, 200]), dlOpen=window, responseExp=False, dlAck=ack, **further)
 
 
 def lost(station):
@@ -78,8 +78,16 @@ def begin(station, what):
     print(f"{station} begin {what}")
 
 
-def fail():
-    print("fail")
+def shut(station, meter, que_id):
+    print(f"{station} shut {meter:016X} {que_id}")
+
+
+def cancel(station, que_id):
+    print(f"{station} cancel {que_id}")
+
+
+def fail(commit=1):
+    print(f"fail {commit}")
 
 
 def restart():
@@ -166,6 +174,7 @@ def not_stored():
     remark("The same where the centre starts something: its ID is not used up. Then it works.")
     fail()
     begin(0, "ping")
+    come_back(0, 0xA0, 8, -2)
     begin(0, "ping")
 
 
@@ -259,11 +268,68 @@ def damage():
     say(1, "con", 0, cut=0, version="2.0.0", bsEui=STATIONS[1], bidi=True, snBsUuid=bytes([0xB1] * 16))
 
 
+def valve_shut():
+    remark("Shut the valve of meter 1. The command waits at station 0; the first reading opens no window, the second one does. The station")
+    remark("takes it, and with its next reading the meter says that it heard it.")
+    for op_id in (32, 33, 34):
+        say(0, "ulDataCmp", op_id, cut=0)
+    shut(0, METERS[0], 1)
+    heard(0, 35, METERS[0], 108, cut=0)
+    say(0, "ulDataCmp", 35, cut=0)
+    heard(0, 36, METERS[0], 109, cut=0, window=True)
+    say(0, "ulDataCmp", 36, cut=0)
+    say(0, "dlDataQueRsp", -4, cut=0)
+    heard(0, 37, METERS[0], 110, cut=0, window=True, ack=True)
+    say(0, "ulDataCmp", 37, cut=0)
+    remark("An ID that waits already, one that is cancelled, and one that is not there.")
+    shut(0, METERS[2], 2)
+    shut(0, METERS[0], 2)
+    shut(0, METERS[0], 3)
+    cancel(0, 3)
+    cancel(0, 3)
+
+
+def valve_and_lost():
+    remark("Meter 3 opens a window, and station 0 is lost before its Rsp: the downlink is open in the stored session. After the resume it is")
+    remark("sent again, under the ID that it had.")
+    heard(0, 38, METERS[2], 303, cut=0, window=True)
+    say(0, "ulDataCmp", 38, cut=0)
+    lost(0)
+    come_back(0, 0xA0, 38, -5)
+    say(0, "dlDataQueRsp", -5, cut=0)
+    remark("The same at station 1, which comes back with another session UUID: there the downlink is open no more, and is started again.")
+    come_back(1, 0xB1, 2, 0)
+    shut(1, SUCCESSOR, 4)
+    heard(1, 3, SUCCESSOR, 13, cut=0, window=True)
+    lost(1)
+    con(1, 0xC1, cut=0)
+    say(1, "conCmp", 0, cut=0)
+    say(1, "dlDataQueRsp", -1, cut=0)
+
+
+def valve_and_store():
+    remark("The second commit from here fails: the one in which a downlink is chosen and started. It waits again, and the connection is closed.")
+    shut(1, SUCCESSOR, 5)
+    fail(2)
+    heard(1, 1, SUCCESSOR, 14, cut=0, window=True)
+    come_back(1, 0xC1, 1, -1)
+    remark("The host ends and starts again: the queue comes from the store. The next window has what waits; one for another meter still waits.")
+    shut(1, METERS[0], 6)
+    restart()
+    come_back(1, 0xC1, 1, -1)
+    heard(1, 2, SUCCESSOR, 15, cut=0, window=True)
+    say(1, "dlDataQueRsp", -2, cut=0)
+    remark("What is stored of a queue is damaged while the host is down: it is asked when it is loaded, and starts empty.")
+    print("2 damage")
+    restart()
+
+
 remark("What two base stations send. Lines are cut inside frames: a frame's end may stand in its station's next line.")
-remark("'fail': the host's next commit fails. 'restart': the host ends and starts with nothing but its store.")
+remark("'fail N': the host's Nth commit from there fails. 'restart': the host ends and starts with nothing but its store.")
+remark("'shut': a valve of a meter, under a queue ID; 'cancel': by that ID; 'damage': what is stored of the station's queue.")
 remark("Meters: long address, short address (two share one), last counter already billed.")
 for meter, short, counter in zip(METERS, ("1A2B", "1A2B", "3C4D"), (100, 200, 300)):
     print(f"meter {meter:016X} {short} {counter}")
 for part in (connect, readings, operations, lose_and_resume, not_stored, restarted, lost_cmp, known_but_not_credited, sixteen_open,
-             con_while_open, replaced, damage):
+             con_while_open, replaced, damage, valve_shut, valve_and_lost, valve_and_store):
     part()

@@ -1,8 +1,9 @@
 /* Replays a recorded conversation through the host's loop and prints what it did, what it sent, and what its store holds at last.
  *   replay FILE [PIECE]     PIECE: hands a line's bytes over so many at a time, and prints the same
- * One event a line: 'STATION bytes HEX', 'STATION lost', 'STATION begin ping|status', 'STATION begin detPrp EUI';
- * 'meter EUI SHORT_ADDRESS LAST_BILLED' enrols a meter, 'withdraw EUI' withdraws it; 'fail': the next commit fails; 'restart': the host
- * ends and starts again with nothing but its store. '#' starts a remark. */
+ * One event a line: 'STATION bytes HEX', 'STATION lost', 'STATION begin ping|status', 'STATION begin detPrp EUI',
+ * 'STATION shut EUI QUEUE_ID', 'STATION cancel QUEUE_ID', 'STATION damage': what is stored of its queue is spoilt;
+ * 'meter EUI SHORT_ADDRESS LAST_BILLED' enrols a meter, 'withdraw EUI' withdraws it; 'fail N': the Nth commit from here fails;
+ * 'restart': the host ends and starts again with nothing but its store. '#' starts a remark. */
 #include <inttypes.h>
 #include <stdio.h>
 #include <stdlib.h>
@@ -16,9 +17,10 @@ static size_t piece = LONGEST_LINE;
 /* A real host has a database: these are its tables, and a change is one transaction. */
 static struct row { uint8_t used; uint64_t eui; uint16_t sh_addr; uint32_t last; uint64_t heard; } stored_rows[HOST_METERS];
 static chz_session stored_sessions[HOST_STATIONS];
-static struct { enum host_list list; unsigned number; chz_message message; } stored_list[LONGEST_LIST];
+static chz_queue stored_queues[HOST_STATIONS];
+static struct { enum host_list list; unsigned number; chz_message message; } stored_list[LONGEST_LIST]; /* HOST_NO_LIST: deleted */
 static size_t stored_count;
-static bool next_fails;
+static unsigned fails_in; /* so many commits; 0: none fails */
 
 static void stop(const char *why, const char *line)
 {
@@ -26,20 +28,51 @@ static void stop(const char *why, const char *line)
     exit(2);
 }
 
-bool outside_store(const struct change *c)
+static void put(const struct change *c)
 {
-    const chz_table *t = &host_meters;
-    bool fails = next_fails;
-    next_fails = false;
-    if (fails) return false;
-    if (c->session) stored_sessions[c->number] = *c->session;
-    if (c->row != HOST_NO_ROW)
-        stored_rows[c->row] = (struct row){ t->used[c->row], t->eui[c->row], t->sh_addr[c->row], t->last[c->row], t->heard[c->row] };
-    if (c->list == HOST_NO_LIST) return true;
     if (stored_count == LONGEST_LIST) stop("too much to store", "make the list longer");
     stored_list[stored_count].list = c->list;
     stored_list[stored_count].number = c->number;
     stored_list[stored_count++].message = *c->message;
+}
+
+static bool is_asked(size_t at, unsigned number)
+{
+    return stored_list[at].list == HOST_ASKED && stored_list[at].number == number;
+}
+
+/* A downlink stands there once, by its queue ID. An operation ID is one operation's: another that still has it is of a session that is
+ * gone; a downlink loses it and is kept, all else is not worth keeping. */
+static void put_asked(const struct change *c)
+{
+    for (size_t at = 0; at < stored_count; at++) {
+        chz_message *m = &stored_list[at].message;
+        bool downlink = m->command == CHZ_DL_DATA_QUE, same_id = m->op_id == c->message->op_id;
+        bool same = downlink && m->command == c->message->command && m->dl_data_que.que_id == c->message->dl_data_que.que_id;
+        if (!is_asked(at, c->number)) continue;
+        if (same || (same_id && !downlink)) stored_list[at].list = HOST_NO_LIST;
+        else if (same_id) m->op_id = 0;
+    }
+    put(c);
+}
+
+static void drop_answered(unsigned number, int64_t op_id)
+{
+    for (size_t at = 0; at < stored_count; at++)
+        if (is_asked(at, number) && stored_list[at].message.op_id == op_id) stored_list[at].list = HOST_NO_LIST;
+}
+
+bool outside_store(const struct change *c)
+{
+    const chz_table *t = &host_meters;
+    if (fails_in && !--fails_in) return false;
+    if (c->session) stored_sessions[c->number] = *c->session;
+    if (c->row != HOST_NO_ROW)
+        stored_rows[c->row] = (struct row){ t->used[c->row], t->eui[c->row], t->sh_addr[c->row], t->last[c->row], t->heard[c->row] };
+    if (c->place != HOST_NO_PLACE) stored_queues[c->number].entry[c->place] = host_stations[c->number].queue.entry[c->place];
+    if (c->list == HOST_ASKED) put_asked(c);
+    else if (c->list == HOST_ANSWERED) drop_answered(c->number, c->message->op_id);
+    else if (c->list != HOST_NO_LIST) put(c);
     return true;
 }
 
@@ -58,14 +91,17 @@ void outside_load_row(size_t row)
     host_meters.heard[row] = r->heard;
 }
 
-/* The latest, since a new session issues the same IDs again. A real host deletes what is answered. */
-bool outside_load_asked(unsigned number, int64_t op_id, chz_message *message)
+void outside_load_place(unsigned number, size_t place)
 {
-    for (size_t i = stored_count; i-- > 0;) {
-        *message = stored_list[i].message;
-        if (stored_list[i].list == HOST_ASKED && stored_list[i].number == number && message->op_id == op_id) return true;
-    }
-    return false;
+    host_stations[number].queue.entry[place] = stored_queues[number].entry[place];
+}
+
+bool outside_load_asked(unsigned number, size_t *at, chz_message *message)
+{
+    while (*at < stored_count && !is_asked(*at, number)) ++*at;
+    if (*at == stored_count) return false;
+    *message = stored_list[*at].message;
+    return true;
 }
 
 /* A recording must print the same each time, so the fresh bytes are counted: a real host calls getrandom. */
@@ -136,12 +172,16 @@ static void play_begin(unsigned number, const char *what)
 static void play_station(const char *line)
 {
     unsigned number;
+    uint64_t meter, que_id;
     int used = 0;
     char event[8];
     if (sscanf(line, "%u %7s %n", &number, event, &used) != 2 || number >= HOST_STATIONS) stop("no event", line);
     if (!strcmp(event, "bytes")) play_bytes(number, line + used);
     else if (!strcmp(event, "lost")) host_lost(number);
     else if (!strcmp(event, "begin")) play_begin(number, line + used);
+    else if (!strcmp(event, "damage")) stored_queues[number].entry[0].command = CHZ_DL_DATA_QUE; /* used, and no entries */
+    else if (sscanf(line + used, "%" SCNx64 " %" SCNu64, &meter, &que_id) == 2 && !strcmp(event, "shut")) host_shut(number, meter, que_id);
+    else if (sscanf(line + used, "%" SCNu64, &que_id) == 1 && !strcmp(event, "cancel")) host_cancel(number, que_id);
     else stop("no event", line);
 }
 
@@ -152,23 +192,37 @@ static void play(const char *line)
     uint32_t last_billed;
     if (*line == '#' || *line == '\n') return;
     if (!strcmp(line, "restart\n")) printf("restarts\n"), host_start();
-    else if (!strcmp(line, "fail\n")) next_fails = true;
+    else if (sscanf(line, "fail %u", &fails_in) == 1) return;
     else if (sscanf(line, "withdraw %" SCNx64, &meter) == 1) host_withdraw(meter);
     else if (sscanf(line, "meter %" SCNx64 " %x %" SCNu32, &meter, &sh_addr, &last_billed) == 3)
         host_enrol(meter, (uint16_t)sh_addr, last_billed);
     else play_station(line);
 }
 
-static void print_store(void)
+/* What has no answer; and what was credited, or not. */
+static void print_lists(void)
 {
     static const char *const names[] = { [HOST_BILLS] = "bill", [HOST_LATE] = "late", [HOST_STRANGERS] = "stranger" };
     for (size_t i = 0; i < stored_count; i++) {
         const chz_message *m = &stored_list[i].message;
         const chz_packet *p = &m->ul_data.packet;
-        if (stored_list[i].list == HOST_ASKED) continue;
-        printf("%s: meter %016" PRIX64 " counter %" PRIu32 " from station %u at %" PRIu64 ", data ", names[stored_list[i].list], p->ep_eui,
-               p->packet_cnt, stored_list[i].number, p->rx_time);
+        enum host_list list = stored_list[i].list;
+        unsigned number = stored_list[i].number;
+        if (list == HOST_ASKED) printf("asked: %s %" PRId64 " of station %u\n", chz_command_name(m->command), m->op_id, number);
+        if (list == HOST_ASKED || list == HOST_NO_LIST) continue;
+        printf("%s: meter %016" PRIX64 " counter %" PRIu32 " from station %u at %" PRIu64 ", data ", names[list], p->ep_eui, p->packet_cnt,
+               number, p->rx_time);
         print_hex(m->data, m->ul_data.user_len);
+    }
+}
+
+static void print_queues(void)
+{
+    for (unsigned i = 0; i < HOST_STATIONS * CHZ_QUEUE; i++) {
+        const chz_message *m = &stored_queues[i / CHZ_QUEUE].entry[i % CHZ_QUEUE];
+        const chz_dl_data_que *d = &m->dl_data_que;
+        if (m->command != CHZ_DL_DATA_QUE) continue;
+        printf("waits: downlink %" PRIu64 " for meter %016" PRIX64 " at station %u\n", d->que_id, d->ep_eui, i / CHZ_QUEUE);
     }
 }
 
@@ -182,6 +236,7 @@ int main(int count, char **arguments)
     host_start();
     while (fgets(line, sizeof line, file)) play(line);
     fclose(file);
-    print_store();
+    print_lists();
+    print_queues();
     return 0;
 }

@@ -1,4 +1,4 @@
-/* Each of the 21 commands with all its fields, in the writer's form: these bytes are read as the message, and the message is
+/* Each of the 24 commands with all its fields, in the writer's form: these bytes are read as the message, and the message is
  * written as these bytes, whatever stands in the bytes that its command does not have. */
 #include "cases.h"
 #include "messages.h"

@@ -31,7 +31,7 @@ static void read_into(size_t len)
 
 static void each_read(void)
 {
-    static const size_t lengths[] = { 0, 1, 3, 64, CHZ_DATA - 1, CHZ_DATA, CHZ_DATA + 1, CHZ_MESSAGE + CHZ_DATA };
+    static const size_t lengths[] = { 0, 1, 3, 64, 245, 246, CHZ_DATA - 1, CHZ_DATA, CHZ_DATA + 1, CHZ_MESSAGE + CHZ_DATA };
     for (size_t i = 0; i < COUNT(lengths); i++) read_into(lengths[i]);
 }
 

@@ -19,3 +19,15 @@ const char *tell(uint64_t answer)
     if (chz_uplink_row(answer) == chz_uplink_hearers(answer)) return chz_command_name(CHZ_PING);
     return chz_refused(answer) ? chz_refusal_name(chz_refused(answer)) : chz_step_name(chz_happened(answer));
 }
+
+uint64_t shut(chz_queue &queue, chz_session &session, uint64_t meter, uint32_t counter, uint8_t *room, size_t room_len)
+{
+    static const uint8_t data[] = { 1, 0 };
+    chz_message m;
+    chz_chosen chosen = {};
+    if (chz_valve(&m, meter, 1, data, sizeof data) || chz_refused(chz_queue_add(&queue, &m)) || !chz_queue_sound(&queue)) return 0;
+    if (chz_refused(chz_queue_choose(&queue, meter, counter, true, &chosen))) return chz_queue_cancel(&queue, 1);
+    chz_chosen_message(&chosen, counter, &m);
+    chz_downlink_entry_for(&m, counter, chosen.data, chosen.data_len);
+    return chz_session_begin(&session, &m, room, room_len);
+}

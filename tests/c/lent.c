@@ -35,7 +35,7 @@ void lend(struct lent *l, const void *bytes, size_t len)
 void lend_filled(struct lent *l, uint8_t filling, size_t len)
 {
     uint8_t bytes[LENT_MOST];
-    memset(bytes, filling, sizeof bytes);
+    memset(bytes, filling, len);
     lend(l, bytes, len);
 }
 

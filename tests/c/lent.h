@@ -6,7 +6,7 @@
 #include <stddef.h>
 #include <stdint.h>
 
-enum { LENT_MOST = 8192 };
+enum { LENT_MOST = 32768 }; /* a queue has 31,488 bytes */
 
 struct lent {
     uint8_t *at; /* what is lent */

@@ -21,6 +21,13 @@ static void all_groups(void)
     reals();
     nothing();
     names();
+    downlinks();
+    downlink_limits();
+    downlink_steps();
+    places();
+    choices();
+    refused_queues();
+    filling();
 }
 
 int main(void)

@@ -26,11 +26,18 @@ static const struct {
     MARK(CHZ_ATT_PRP, att_prp.wide_carr_off), MARK(CHZ_ATT_PRP, att_prp.long_blk_dist),
     MARK(CHZ_UL_DATA, ul_data.packet.has_rx_duration), MARK(CHZ_UL_DATA, ul_data.packet.has_eq_snr),
     MARK(CHZ_UL_DATA, ul_data.dl_open), MARK(CHZ_UL_DATA, ul_data.response_exp), MARK(CHZ_UL_DATA, ul_data.dl_ack),
+    MARK(CHZ_DL_DATA_QUE, dl_data_que.cnt_depend), MARK(CHZ_DL_DATA_QUE, dl_data_que.has_response_exp),
+    MARK(CHZ_DL_DATA_QUE, dl_data_que.response_exp), MARK(CHZ_DL_DATA_QUE, dl_data_que.has_response_prio),
+    MARK(CHZ_DL_DATA_QUE, dl_data_que.response_prio), MARK(CHZ_DL_DATA_QUE, dl_data_que.has_dl_wind_req),
+    MARK(CHZ_DL_DATA_QUE, dl_data_que.dl_wind_req), MARK(CHZ_DL_DATA_QUE, dl_data_que.has_exp_only),
+    MARK(CHZ_DL_DATA_QUE, dl_data_que.exp_only),
 };
 
 /* A bad message is 15 before 17 where it arrives; where the centre begins with it, 17 comes first. */
-static void is_refused(const chz_message *m, unsigned begin_refused)
+static void is_refused(const chz_message *m)
 {
+    bool starts = m->command == CHZ_ATT_PRP || m->command == CHZ_DL_DATA_QUE;
+    unsigned begin_refused = starts ? CHZ_INVALID : CHZ_STATE;
     chz_session s = open_session();
     lend_session_with(&s, m);
     JUDGE(write_lent(), ANSWER(CHZ_INVALID, 0, 0), &message, &data, &room);
@@ -47,12 +54,11 @@ static void each_mark(void)
     static const uint8_t wrong[] = { 2, 255 };
     for (size_t i = 0; i < COUNT(cases) * COUNT(wrong); i++) {
         static char name[64];
-        uint8_t command = cases[i / 2].command;
-        chz_message m = whole_message(whole_of(command));
+        chz_message m = whole_message(whole_of(cases[i / 2].command));
         ((uint8_t *)&m)[cases[i / 2].at] = wrong[i % 2];
         snprintf(name, sizeof name, "%s is %u", cases[i / 2].name, wrong[i % 2]);
         start(name);
-        is_refused(&m, command == CHZ_ATT_PRP ? CHZ_INVALID : CHZ_STATE);
+        is_refused(&m);
     }
 }
 
@@ -79,6 +85,10 @@ static const struct {
     FIELD(CHZ_UL_DATA, ul_data.packet, has_rx_duration, rx_duration, rx_duration),
     FIELD(CHZ_UL_DATA, ul_data.packet, has_eq_snr, eq_snr, eq_snr),
     FIELD(CHZ_UL_DATA, ul_data.packet, profile_len, profile, profile),
+    FIELD(CHZ_DL_DATA_QUE, dl_data_que, has_response_exp, response_exp, response_exp),
+    FIELD(CHZ_DL_DATA_QUE, dl_data_que, has_response_prio, response_prio, response_prio),
+    FIELD(CHZ_DL_DATA_QUE, dl_data_que, has_dl_wind_req, dl_wind_req, dl_wind_req),
+    FIELD(CHZ_DL_DATA_QUE, dl_data_que, has_exp_only, exp_only, exp_only),
 };
 
 /* Read back, what was written has the field absent and all others as they were. */
@@ -104,9 +114,9 @@ static void absent(size_t i)
     is_left_out(&m);
     for (size_t at = optional[i].from; at < optional[i].to; at++) {
         bytes[at] = 0x01;
-        is_refused(&m, CHZ_STATE);
+        is_refused(&m);
         bytes[at] = 0x80;
-        is_refused(&m, CHZ_STATE);
+        is_refused(&m);
         bytes[at] = 0;
     }
 }

@@ -6,12 +6,19 @@
 
 struct lent payload, message, data, room;
 
-/* Never more than the struct has. */
-static size_t data_said(const chz_message *m)
+static size_t downlink_said(const chz_message *m)
+{
+    size_t said = offsetof(chz_dl_entries, bytes);
+    for (int i = 0; i < m->dl_data_que.entries && i < CHZ_ENTRIES; i++) said += m->dl.length[i];
+    return said;
+}
+
+size_t data_said(const chz_message *m)
 {
     size_t said = 0;
     if (m->command == CHZ_UL_DATA) said = m->ul_data.user_len;
     if (m->command == CHZ_STATUS_RSP) said = m->status_rsp.message_len;
+    if (m->command == CHZ_DL_DATA_QUE) said = downlink_said(m);
     return said < CHZ_DATA ? said : CHZ_DATA;
 }
 
@@ -65,8 +72,16 @@ static const size_t fields_len[] = {
     [CHZ_ATT_PRP] = offsetof(chz_att_prp, long_blk_dist) + 1,
     [CHZ_DET_PRP] = sizeof(chz_det_prp),
     [CHZ_UL_DATA] = offsetof(chz_ul_data, dl_ack) + 1,
-    [CHZ_UL_DATA_CMP] = 0,
+    [CHZ_DL_DATA_QUE] = offsetof(chz_dl_data_que, exp_only) + 1,
+    [CHZ_DL_DATA_QUE_CMP] = 0,
 };
+
+static void dress_downlink(chz_message *m, uint8_t garbage)
+{
+    const chz_dl_data_que *d = &m->dl_data_que;
+    for (int i = d->cnt_depend ? d->entries : 0; i < CHZ_COUNTERS; i++) memset(&m->dl.counter[i], garbage, sizeof *m->dl.counter);
+    for (int i = d->entries; i < CHZ_ENTRIES; i++) m->dl.length[i] = garbage;
+}
 
 chz_message with_garbage(const chz_message *m, uint8_t garbage)
 {
@@ -78,5 +93,6 @@ chz_message with_garbage(const chz_message *m, uint8_t garbage)
     memcpy((uint8_t *)&dressed + fields, (const uint8_t *)m + fields, fields_len[m->command]);
     if (m->command == CHZ_DET || m->command == CHZ_UL_DATA) dressed.det.packet.reserved = garbage;
     memcpy(dressed.data, m->data, data_said(m));
+    if (m->command == CHZ_DL_DATA_QUE) dress_downlink(&dressed, garbage);
     return dressed;
 }

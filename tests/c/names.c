@@ -19,7 +19,8 @@ static const struct word refusals[] = {
     { CHZ_ROOM_TOO_SHORT, "room too short" }, { CHZ_NO_ROW, "no such meter" }, { CHZ_ALREADY_ENROLLED, "already enrolled" },
     { CHZ_NO_FREE_ROW, "no free row" }, { CHZ_UNEQUAL_COLUMNS, "columns of unequal length" },
     { CHZ_STATION_NUMBER, "station number over 63" }, { CHZ_STALE, "stale counter" },
-    { 27, "unknown" }, { 255, "unknown" }, { UINT_MAX, "unknown" },
+    { CHZ_QUEUE_ID_THERE, "queue ID already there" }, { CHZ_QUEUE_FULL, "queue full" }, { CHZ_NO_QUEUE_ID, "no such queue ID" },
+    { CHZ_NOTHING_SUITABLE, "nothing suitable" }, { 31, "unknown" }, { 255, "unknown" }, { UINT_MAX, "unknown" },
 };
 
 static const struct word commands_by_number[] = {
@@ -28,7 +29,9 @@ static const struct word commands_by_number[] = {
     { CHZ_PING, "ping" }, { CHZ_PING_RSP, "pingRsp" }, { CHZ_PING_CMP, "pingCmp" }, { CHZ_STATUS, "status" },
     { CHZ_STATUS_CMP, "statusCmp" }, { CHZ_DET_CMP, "detCmp" }, { CHZ_ATT_PRP_RSP, "attPrpRsp" },
     { CHZ_ATT_PRP_CMP, "attPrpCmp" }, { CHZ_DET_PRP_RSP, "detPrpRsp" }, { CHZ_DET_PRP_CMP, "detPrpCmp" },
-    { CHZ_UL_DATA_RSP, "ulDataRsp" }, { CHZ_UL_DATA_CMP, "ulDataCmp" }, { 21, "unknown" }, { 255, "unknown" }, { UINT_MAX, "unknown" },
+    { CHZ_UL_DATA_RSP, "ulDataRsp" }, { CHZ_UL_DATA_CMP, "ulDataCmp" }, { CHZ_DL_DATA_QUE, "dlDataQue" },
+    { CHZ_DL_DATA_QUE_RSP, "dlDataQueRsp" }, { CHZ_DL_DATA_QUE_CMP, "dlDataQueCmp" }, { 24, "unknown" }, { 255, "unknown" },
+    { UINT_MAX, "unknown" },
 };
 
 static const struct word happenings[] = {
@@ -38,8 +41,10 @@ static const struct word happenings[] = {
     { 19, "unknown" }, { 255, "unknown" }, { UINT_MAX, "unknown" },
 };
 
-/* The greatest row that an answer can tell, heard by all. */
+/* The greatest row that an answer can tell, heard by all. The last data entry that a queue can show: behind fifteen of 37 bytes, in the
+ * last place, as long as may be. */
 #define CREDITED_FAR ANSWER(0, CHZ_NEW, 0xFFFFFFFFFF40)
+#define CHOSEN_LAST ANSWER(0, 0, 31 + 256 * 245 + 65536 * (80 + 15 * 37))
 
 static void each(const char *(*name)(unsigned), const struct word *words, size_t count)
 {
@@ -57,4 +62,8 @@ void names(void)
     start("the parts of chz_uplink's value");
     JUDGE(chz_uplink_row(CREDITED_FAR), 0xFFFFFFFFFF, NULL);
     JUDGE(chz_uplink_hearers(CREDITED_FAR), 64, NULL);
+    start("the parts of chz_choose's value");
+    JUDGE(chz_chosen_place(CHOSEN_LAST), 31, NULL);
+    JUDGE(chz_chosen_len(CHOSEN_LAST), 245, NULL);
+    JUDGE(chz_chosen_from(CHOSEN_LAST), 635, NULL);
 }

@@ -90,23 +90,30 @@ static void in_each_session(const chz_message *m)
     spoilt_record("bad record, waiting", &s, m, CHZ_STATE);
 }
 
-/* Of the centre's starts only attPrp can be a bad record: by its marks. */
+static void with_byte(chz_message m, size_t at, uint8_t byte)
+{
+    ((uint8_t *)&m)[at] = byte;
+    in_each_session(&m);
+}
+
+/* Of the centre's starts only attPrp can be a bad record, by its marks, and dlDataQue, by its marks and its entries. */
 static void each_spoilt_record(void)
 {
-    const size_t first = offsetof(chz_message, att_prp.bidi), last = offsetof(chz_message, att_prp.long_blk_dist);
-    for (size_t at = first; at <= last; at++) {
-        chz_message m = message_of(ATT_PRP);
-        ((uint8_t *)&m)[at] = 2;
-        in_each_session(&m);
-        ((uint8_t *)&m)[at] = 255;
-        in_each_session(&m);
-    }
+    const chz_message att_prp = message_of(ATT_PRP), downlink = message_of(DOWNLINK);
+    for (size_t at = offsetof(chz_message, att_prp.bidi); at <= offsetof(chz_message, att_prp.long_blk_dist); at++)
+        with_byte(att_prp, at, 2), with_byte(att_prp, at, 255);
+    for (size_t at = offsetof(chz_message, dl_data_que.cnt_depend); at <= offsetof(chz_message, dl_data_que.exp_only); at++)
+        with_byte(downlink, at, 2), with_byte(downlink, at, 255);
+    with_byte(downlink, offsetof(chz_message, dl_data_que.entries), 0);
+    with_byte(downlink, offsetof(chz_message, dl_data_que.entries), 2);
+    with_byte(downlink, offsetof(chz_message, dl_data_que.entries), 255);
+    with_byte(downlink, offsetof(chz_message, dl.length), CHZ_USER_DATA + 1);
 }
 
 /* A command that there is not is 15 where it arrives; to begin with it is 17, before all that is wrong besides. */
 static void each_unknown_command(void)
 {
-    static const uint8_t commands[] = { 21, 22, 127, 128, 255 };
+    static const uint8_t commands[] = { 24, 25, 127, 128, 255 };
     chz_session s = open_session();
     fill_places(s.centre_id, s.centre_kind, -1);
     s.lowest = INT64_MIN;

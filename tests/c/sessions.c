@@ -2,6 +2,8 @@
 
 #include <string.h>
 
+#include "spell.h"
+
 struct lent session, uuid, sign;
 
 void lend_session(const chz_session *before, const char *spelled)
@@ -46,6 +48,35 @@ chz_session session_now(void)
     chz_session now;
     memcpy(&now, session.at, sizeof now);
     return now;
+}
+
+/* A refused step may change nothing. */
+static void expect_session(const struct step *step, chz_session now)
+{
+    if (step->refused) return;
+    now.state = (uint8_t)step->state;
+    now.highest = step->highest;
+    now.lowest = step->lowest;
+    expect(&session, 0, &now, sizeof now);
+}
+
+void live(const struct step *steps, size_t count, uint8_t garbage)
+{
+    chz_session before;
+    memset(&before, 0, sizeof before);
+    for (const struct step *step = steps; step < steps + count; step++) {
+        uint8_t frame[LENT_MOST];
+        size_t len = step->sent ? spell_frame(step->sent, frame) : 0;
+        chz_message m = message_of(step->message);
+        m = with_garbage(&m, garbage);
+        start(step->name);
+        lend_session_with(&before, &m);
+        expect(&room, 0, frame, len);
+        uint64_t answer = take(step->what);
+        before = session_now();
+        expect_session(step, before);
+        JUDGE(answer, ANSWER(step->refused, step->happened, len), ALL_OF_SESSION);
+    }
 }
 
 chz_session open_session(void)

@@ -3,7 +3,6 @@
 
 #include "cases.h"
 #include "sessions.h"
-#include "spell.h"
 
 #define READING_2                                                                                                          \
     "8B 'command' 'ulData' 'opId' 02 'epEui' 09 'rxTime' 01 'packetCnt' 64 'snr' CA41200000 'rssi' CAC2C20000 "            \
@@ -15,16 +14,7 @@
     "8B 'command' 'attPrp' 'opId' FD 'epEui' 09 'bidi' C2 'nwkSnKey' DC0010 16*7F 'shAddr' 01 'lastPacketCnt' 64 "         \
     "'dualChan' C2 'repetition' C2 'wideCarrOff' C2 'longBlkDist' C2"
 
-/* One session goes through all of them, one after the other. */
-static const struct {
-    const char *name;
-    enum what what;
-    const char *message;
-    unsigned refused, happened;
-    const char *sent; /* NULL: nothing */
-    int state;
-    int64_t highest, lowest;
-} cases[] = {
+static const struct step cases[] = {
     { "lost while waiting", LOST, PING, 0, CHZ_NOTHING, NULL, CHZ_WAITING, 0, 0 },
     { "ping while waiting", ARRIVES, PING, CHZ_STATE, 0, NULL, CHZ_WAITING, 0, 0 },
     { "start while waiting", BEGINS, PING, CHZ_STATE, 0, NULL, CHZ_WAITING, 0, 0 },
@@ -74,36 +64,6 @@ static const struct {
       0, 0 },
 };
 
-/* A step that is taken may change the session: of that, these three are stated here. A refused one may change nothing. */
-static void expect_session(size_t i, chz_session now)
-{
-    if (cases[i].refused) return;
-    now.state = (uint8_t)cases[i].state;
-    now.highest = cases[i].highest;
-    now.lowest = cases[i].lowest;
-    expect(&session, 0, &now, sizeof now);
-}
-
-/* In every byte that the message's command does not have stands garbage: it changes nothing. */
-static void one_life(uint8_t garbage)
-{
-    chz_session before;
-    memset(&before, 0, sizeof before);
-    for (size_t i = 0; i < COUNT(cases); i++) {
-        uint8_t frame[LENT_MOST];
-        size_t len = cases[i].sent ? spell_frame(cases[i].sent, frame) : 0;
-        chz_message m = message_of(cases[i].message);
-        m = with_garbage(&m, garbage);
-        start(cases[i].name);
-        lend_session_with(&before, &m);
-        expect(&room, 0, frame, len);
-        uint64_t answer = take(cases[i].what);
-        before = session_now();
-        expect_session(i, before);
-        JUDGE(answer, ANSWER(cases[i].refused, cases[i].happened, len), ALL_OF_SESSION);
-    }
-}
-
 static const struct {
     enum what what;
     const char *message;
@@ -140,8 +100,8 @@ static void whole_session(void)
 
 void steps(void)
 {
-    one_life(0);
-    one_life(2);
-    one_life(0xFF);
+    live(cases, COUNT(cases), 0);
+    live(cases, COUNT(cases), 2);
+    live(cases, COUNT(cases), 0xFF);
     whole_session();
 }

@@ -1,4 +1,4 @@
-/* Each of the 21 commands with all its fields, filled and spelled by hand. */
+/* Each of the 24 commands with all its fields, filled and spelled by hand. */
 #include "whole.h"
 
 #include <string.h>
@@ -100,12 +100,50 @@ static void ul_data(chz_message *m)
     u->dl_open = u->response_exp = 1;
 }
 
-/* Nothing that is written is longer than a reading whose bytes all take two. */
-static void longest(chz_message *m)
+/* No reading is longer than one whose bytes all take two. */
+static void longest_reading(chz_message *m)
 {
     ul_data(m);
-    m->ul_data.user_len = CHZ_DATA;
-    memset(m->data, 0xFF, CHZ_DATA);
+    m->ul_data.user_len = CHZ_USER_DATA;
+    memset(m->data, 0xFF, CHZ_USER_DATA);
+}
+
+static void dl_data_que(chz_message *m)
+{
+    chz_dl_data_que *d = &m->dl_data_que;
+    d->ep_eui = 0x70B3D50000000001;
+    d->que_id = UINT64_MAX;
+    d->cnt_depend = 1;
+    d->entries = 2;
+    m->dl.counter[0] = 300;
+    m->dl.counter[1] = UINT32_MAX;
+    m->dl.length[0] = 2;
+    memcpy(m->dl.bytes, "\200\177", 2);
+    d->format = 200;
+    d->prio = -1.5;
+    d->has_response_exp = d->has_response_prio = d->has_dl_wind_req = d->has_exp_only = 1;
+    d->response_exp = d->dl_wind_req = 1;
+}
+
+/* Nothing that is written is longer: sixteen counters of five bytes, 800 bytes that take two each, and every field. */
+static void longest(chz_message *m)
+{
+    dl_data_que(m);
+    m->op_id = INT64_MIN;
+    m->dl_data_que.entries = 16;
+    memset(m->dl.counter, 0xFF, sizeof m->dl.counter);
+    memset(m->dl.length, 50, sizeof m->dl.length);
+    memset(m->dl.bytes, 0xFF, sizeof m->dl.bytes);
+}
+
+/* A valve command that says no more than it must. */
+static void plain(chz_message *m)
+{
+    m->dl_data_que.ep_eui = 9;
+    m->dl_data_que.que_id = 5;
+    m->dl_data_que.entries = 1;
+    m->dl.length[0] = 3;
+    memcpy(m->dl.bytes, "\1\2\3", 3);
 }
 
 #define ID "'opId' 07 "
@@ -115,6 +153,10 @@ static void longest(chz_message *m)
     "'snr' CB4024000000000000 'rssi' CBC058400000000000 'eqSnr' CB3FE0000000000000 'profile' 'eu1' "
 #define SIGN "'sign' 94 01 02 CCFF 00 "
 #define FLAGS "'format' CCC8 'dlOpen' C3 'responseExp' C3 'dlAck' C2"
+#define DOWN "'epEui' CF70B3D50000000001 'queId' CFFFFFFFFFFFFFFFFF 'cntDepend' C3 "
+#define WISHES "'format' CCC8 'prio' CBBFF8000000000000 'responseExp' C3 'responsePrio' C2 'dlWindReq' C3 'expOnly' C2"
+#define FOUR(text) text text text text
+#define SIXTEEN_OF_50 FOUR(FOUR("DC0032 50*CCFF "))
 
 const struct whole wholes[WHOLES] = {
     { CHZ_CON, "89 'command' 'con' " ID "'version' '1.0.65535' 'bsEui' CF70B3D5FFFE00A000 'bidi' C3 " LOCATION
@@ -128,7 +170,7 @@ const struct whole wholes[WHOLES] = {
       "'dualChan' C2 'repetition' C3 'wideCarrOff' C2 'longBlkDist' C3", 39, att_prp },
     { CHZ_DET_PRP, "83 'command' 'detPrp' " ID "'epEui' 09", 7, det_prp },
     { CHZ_UL_DATA, "8F 'command' 'ulData' " ID HEARD "'userData' 92 CC80 7F " FLAGS, 33, ul_data },
-    { CHZ_UL_DATA, "8F 'command' 'ulData' " ID HEARD "'userData' DC00F5 245*CCFF " FLAGS, 276, longest },
+    { CHZ_UL_DATA, "8F 'command' 'ulData' " ID HEARD "'userData' DC00F5 245*CCFF " FLAGS, 276, longest_reading },
     { CHZ_CON_CMP, "82 'command' 'conCmp' " ID, 5, NULL },
     { CHZ_PING, "82 'command' 'ping' " ID, 5, NULL },
     { CHZ_PING_RSP, "82 'command' 'pingRsp' " ID, 5, NULL },
@@ -142,6 +184,13 @@ const struct whole wholes[WHOLES] = {
     { CHZ_DET_PRP_CMP, "82 'command' 'detPrpCmp' " ID, 5, NULL },
     { CHZ_UL_DATA_RSP, "82 'command' 'ulDataRsp' " ID, 5, NULL },
     { CHZ_UL_DATA_CMP, "82 'command' 'ulDataCmp' " ID, 5, NULL },
+    { CHZ_DL_DATA_QUE, "8D 'command' 'dlDataQue' " ID DOWN "'packetCnt' 92 CD012C CEFFFFFFFF 'userData' 92 92CC807F 90 " WISHES,
+      33, dl_data_que },
+    { CHZ_DL_DATA_QUE, "8D 'command' 'dlDataQue' 'opId' D38000000000000000 " DOWN "'packetCnt' DC0010 16*CEFFFFFFFF 'userData' DC0010 "
+      SIXTEEN_OF_50 WISHES, 859, longest },
+    { CHZ_DL_DATA_QUE, "86 'command' 'dlDataQue' " ID "'epEui' 09 'queId' 05 'cntDepend' C2 'userData' 91 93010203", 17, plain },
+    { CHZ_DL_DATA_QUE_RSP, "82 'command' 'dlDataQueRsp' " ID, 5, NULL },
+    { CHZ_DL_DATA_QUE_CMP, "82 'command' 'dlDataQueCmp' " ID, 5, NULL },
 };
 
 chz_message whole_message(const struct whole *whole)

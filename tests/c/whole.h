@@ -11,8 +11,8 @@ struct whole {
     void (*fill)(chz_message *);
 };
 
-/* Each of the 21 commands, and the longest message. */
-enum { WHOLES = 22 };
+/* Each of the 24 commands, the longest ulData, and two more dlDataQue: the longest message of all, and a plain one. */
+enum { WHOLES = 27 };
 extern const struct whole wholes[WHOLES];
 
 chz_message whole_message(const struct whole *whole);

@@ -26,7 +26,7 @@ static const struct {
 
 /* Each spoils one message, which is else in its ranges. */
 #define EDIT(name, edit) static void name(chz_message *m) { edit; }
-EDIT(no_command, m->command = 21)
+EDIT(no_command, m->command = 24)
 EDIT(greatest_command, m->command = 255)
 EDIT(mark_over_one, m->ul_data.dl_ack = 2)
 EDIT(data_too_long, m->ul_data.user_len = 246)
@@ -54,7 +54,7 @@ struct edited {
 };
 
 static const struct edited spoilt[] = {
-    { "command 21", CHZ_PING, no_command },
+    { "command 24", CHZ_PING, no_command },
     { "command 255", CHZ_PING, greatest_command },
     { "mark of 2", CHZ_UL_DATA, mark_over_one },
     { "246 bytes of userData", CHZ_UL_DATA, data_too_long },
@@ -83,6 +83,7 @@ EDIT(field_of_others, m->det_prp.ep_eui = 1)
 EDIT(mark_of_others, m->status_rsp.has_temp = 2)
 EDIT(real_of_others, m->status_rsp.temp = NAN)
 EDIT(length_of_others, m->status_rsp.message_len = 255; m->ul_data.user_len = 255)
+EDIT(entries_of_others, m->dl_data_que.entries = 255)
 EDIT(byte_behind_data, m->data[2] = 1)
 EDIT(byte_behind_text, memset(m->data + 2, 0xFF, CHZ_DATA - 2))
 EDIT(data_of_none, memset(m->data, 0xFF, CHZ_DATA))
@@ -94,6 +95,7 @@ static const struct edited ignored[] = {
     { "mark of another command", CHZ_PING, mark_of_others },
     { "real of another command", CHZ_DET_RSP, real_of_others },
     { "lengths of other commands", CHZ_ATT_PRP, length_of_others },
+    { "data entries of another command", CHZ_DET_PRP, entries_of_others },
     { "byte behind userData", CHZ_UL_DATA, byte_behind_data },
     { "bytes behind the text", CHZ_STATUS_RSP, byte_behind_text },
     { "data of a command that has none", CHZ_CON, data_of_none },

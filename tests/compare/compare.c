@@ -1,8 +1,8 @@
 /* Makes the library's calls on the cases that come from standard input (stream.rs says how they are written) and compares the
  * answer and every lent byte with what the reference expects. Each call is made twice: in the floating point mode that a program
  * starts with, and with subnormal numbers taken for zero and numbers rounded downward. Each buffer ends at a page that must not be
- * touched and has marked bytes before it; the second time an empty one is NULL. With a case's number as argument it also prints
- * what that case hands over.
+ * touched and has marked bytes before it; the second time an empty one is NULL. On a queue that no calls made, a call must only
+ * end and stay in range. With a case's number as argument it also prints what that case hands over.
  * The last line is 'N passed, M failed'. */
 #define _GNU_SOURCE
 #include <setjmp.h>
@@ -23,7 +23,8 @@ static const unsigned modes[] = { 0x1F80, 0xBFC0 };
 static unsigned mode;
 #define MARK 0xC5
 
-/* Shapes of arguments: a number, bytes, a message, a session, or a column of 1, 2, 4 or 8 bytes an entry. */
+/* Shapes of arguments: a number, bytes, a message, a session, a queue, or a column of 1, 2, 4 or 8 bytes an entry; and data that
+ * aren't handed over, but that the answer shows. */
 struct argument { const char *name; char shape; };
 struct call { const char *name; struct argument arguments[MOST_ARGUMENTS]; };
 
@@ -41,7 +42,15 @@ static const struct call calls[] = {
     { "chz_withdraw", { COLUMNS } },
     { "chz_uplink", { COLUMNS, { "counter", 'n' }, { "station", 'n' } } },
     { "chz_form", { { "payload", 'b' } } },
+    { "chz_add", { { "queue", 'q' }, IMAGE } },
+    { "chz_cancel", { { "queue", 'q' }, { "que_id", 'n' } } },
+    { "chz_choose", { { "queue", 'q' }, { "meter", 'n' }, { "counter", 'n' }, { "expected", 'n' }, { "shown", 'd' } } },
+    { "chz_sound", { { "queue", 'q' } } },
 };
+/* By number, those of which the code speaks. */
+enum { ADD = 11, CANCEL, CHOOSE };
+/* An answer that isn't known: the queue is one that no calls made. */
+#define UNKNOWN UINT64_MAX
 enum { CALLS = sizeof calls / sizeof *calls };
 
 struct member { const char *name; size_t at, size; };
@@ -51,7 +60,7 @@ struct member { const char *name; size_t at, size; };
 #define LAST { 0, 0, 0 }
 static const struct member head_members[] = { M(op_id), M(command), M(reserved), LAST };
 /* The fields of each command that has some. */
-static const struct member field_members[][17] = {
+static const struct member field_members[][18] = {
     [CHZ_CON] = { M(con.bs_eui), M(con.sn_bs_op_id), M(con.sn_sc_op_id), M(con.latitude), M(con.longitude), M(con.altitude),
         M(con.sn_bs_uuid), M(con.version_major), M(con.version_minor), M(con.version_patch), M(con.has_version), M(con.bidi),
         M(con.has_geo_location), M(con.has_sn_bs_op_id), M(con.has_sn_sc_op_id), LAST },
@@ -67,9 +76,15 @@ static const struct member field_members[][17] = {
         M(att_prp.dual_chan), M(att_prp.repetition), M(att_prp.wide_carr_off), M(att_prp.long_blk_dist), LAST },
     [CHZ_DET_PRP] = { M(det_prp.ep_eui), LAST },
     [CHZ_UL_DATA] = { P(ul_data.packet), M(ul_data.user_len), M(ul_data.format), M(ul_data.dl_open), M(ul_data.response_exp),
-        M(ul_data.dl_ack) },
-    [CHZ_UL_DATA_CMP] = { LAST },
+        M(ul_data.dl_ack), LAST },
+    [CHZ_DL_DATA_QUE] = { M(dl_data_que.ep_eui), M(dl_data_que.que_id), M(dl_data_que.prio), M(dl_data_que.entries),
+        M(dl_data_que.format), M(dl_data_que.cnt_depend), M(dl_data_que.has_response_exp), M(dl_data_que.response_exp),
+        M(dl_data_que.has_response_prio), M(dl_data_que.response_prio), M(dl_data_que.has_dl_wind_req),
+        M(dl_data_que.dl_wind_req), M(dl_data_que.has_exp_only), M(dl_data_que.exp_only), LAST },
+    [CHZ_DL_DATA_QUE_CMP] = { LAST },
 };
+/* What stands beside a downlink. */
+static const struct member beside_members[] = { M(dl.counter), M(dl.length), M(dl.bytes), LAST };
 #define S(name) { #name, offsetof(chz_session, name), sizeof(((chz_session *)0)->name) }
 static const struct member session_members[] = {
     S(bs_eui), S(highest), S(lowest), S(station_id), S(centre_id), S(station_kind), S(centre_kind), S(sn_bs_uuid), S(sn_sc_uuid),
@@ -79,7 +94,8 @@ static const struct member session_members[] = {
 /* One argument of the case at hand. */
 static struct handed { uint64_t count; size_t size; uint8_t *lent; uint8_t before[SPACE], after[SPACE]; } handed[MOST_ARGUMENTS];
 static uint8_t *space[MOST_ARGUMENTS]; /* ends at the page that must not be touched */
-static uint64_t seed, number, must, asked = UINT64_MAX, passed[CALLS], failed[CALLS], refused[CALLS][256], happened[CALLS][256];
+static uint64_t seed, number, must, asked = UINT64_MAX, passed[CALLS], failed[CALLS], refused[CALLS][256], happened[CALLS][256],
+    unknown[CALLS];
 static const struct call *call;
 static sigjmp_buf back;
 static volatile sig_atomic_t inside, ticks;
@@ -110,6 +126,33 @@ static size_t width(char shape)
     return shape >= '1' && shape <= '8' ? (size_t)(shape - '0') : 1;
 }
 
+/* Whether the argument is a buffer that the call is lent. */
+static int is_lent(int i)
+{
+    return call->arguments[i].shape != 'n' && call->arguments[i].shape != 'd';
+}
+
+/* Where a queue is as the last case left it, its bytes aren't there; and of those after the call only what changes. */
+static void take_queue(struct handed *h)
+{
+    static uint8_t left[SPACE];
+    static size_t left_size = SIZE_MAX;
+    uint8_t same, changed;
+    take(&same, 1);
+    if (same && left_size != h->size) end("no queue of this length was left");
+    if (same) memcpy(h->before, left, h->size);
+    else take(h->before, h->size);
+    memcpy(h->after, h->before, h->size);
+    take(&changed, 1);
+    if (changed) {
+        uint64_t from = take_number(), size = take_number();
+        if (from > h->size || size > h->size - from) end("a queue changes behind its end");
+        take(h->after + from, size);
+    }
+    memcpy(left, h->after, h->size);
+    left_size = h->size;
+}
+
 static void take_argument(int i)
 {
     struct handed *h = &handed[i];
@@ -119,7 +162,12 @@ static void take_argument(int i)
     h->size = h->count * width(call->arguments[i].shape);
     if (h->size > SPACE - BEFORE) end("a buffer is longer than the space for it");
     h->lent = space[i] - h->size;
+    if (call->arguments[i].shape == 'q') {
+        take_queue(h);
+        return;
+    }
     take(h->before, h->size);
+    if (!is_lent(i)) return;
     take(&changed, 1);
     if (changed) take(h->after, h->size);
     else memcpy(h->after, h->before, h->size);
@@ -128,7 +176,7 @@ static void take_argument(int i)
 static void lend_argument(int i)
 {
     struct handed *h = &handed[i];
-    if (call->arguments[i].shape == 'n') return;
+    if (!is_lent(i)) return;
     memset(h->lent - BEFORE, MARK, BEFORE);
     memcpy(h->lent, h->before, h->size);
 }
@@ -164,12 +212,20 @@ static uint64_t make_call(void)
     case 7: return chz_enrol(TABLE, (uint16_t)N(6), (uint32_t)N(7));
     case 8: return chz_withdraw(TABLE);
     case 9: return chz_uplink(TABLE, (uint32_t)N(6), N(7));
-    default: return chz_form(BYTES(0));
+    case 10: return chz_form(BYTES(0));
+    case ADD: return chz_add(BYTES(0), BYTES(1), BYTES(2));
+    case CANCEL: return chz_cancel(BYTES(0), N(1));
+    case CHOOSE: return chz_choose(BYTES(0), N(1), (uint32_t)N(2), (uint8_t)N(3));
+    default: return chz_sound(BYTES(0));
     }
 }
 
 static void print_answer(const char *which, uint64_t answer)
 {
+    if (answer == UNKNOWN) {
+        printf("%s any answer in range", which);
+        return;
+    }
     printf("%s refused %u, happened %u, value %llu", which, chz_refused(answer), chz_happened(answer),
         (unsigned long long)chz_value(answer));
 }
@@ -224,6 +280,24 @@ static int compare_members(int *differs, int i, const struct member *m)
     return named;
 }
 
+/* The members of each place of a queue that differs. */
+static int compare_places(int *differs, int i)
+{
+    const struct member *const all[] = { head_members, field_members[CHZ_DL_DATA_QUE], beside_members };
+    int named = 0;
+    for (size_t place = 0; place < CHZ_QUEUE; place++) {
+        size_t start = place * sizeof(chz_message);
+        if (!memcmp(handed[i].after + start, handed[i].lent + start, sizeof(chz_message))) continue;
+        for (size_t a = 0; a < sizeof all / sizeof *all; a++)
+            for (const struct member *m = all[a]; m->name; m++) {
+                char name[64];
+                snprintf(name, sizeof name, "entry[%zu].%s", place, m->name);
+                named += compare_part(differs, i, name, start + m->at, m->size);
+            }
+    }
+    return named;
+}
+
 /* What differs is named where it has a name; then the bytes between and behind the members, if they alone differ. */
 static void compare_buffer(int *differs, int i)
 {
@@ -234,6 +308,7 @@ static void compare_buffer(int *differs, int i)
     if (command < sizeof field_members / sizeof *field_members)
         named = compare_members(differs, i, head_members) + compare_members(differs, i, field_members[command]);
     if (a->shape == 's' && h->size == sizeof(chz_session)) named = compare_members(differs, i, session_members);
+    if (a->shape == 'q' && h->size == sizeof(chz_queue)) named = compare_places(differs, i);
     if (!named) compare_part(differs, i, "", 0, h->size);
     for (size_t b = 1; b <= BEFORE; b++)
         if (h->lent[-(ptrdiff_t)b] != MARK) {
@@ -242,11 +317,49 @@ static void compare_buffer(int *differs, int i)
         }
 }
 
+static void got(int *differs, const char *what, uint64_t is)
+{
+    wrong(differs, "%s: got refused %u, happened %u, value %llu", what, chz_refused(is), chz_happened(is),
+        (unsigned long long)chz_value(is));
+}
+
+/* Where the answer of chz_choose shows data: their start, or NULL where they aren't in the place. */
+static const uint8_t *shown_by(uint64_t is)
+{
+    if (chz_chosen_place(is) >= CHZ_QUEUE || chz_chosen_from(is) > CHZ_DATA ||
+        chz_chosen_len(is) > CHZ_DATA - chz_chosen_from(is))
+        return 0;
+    return handed[0].lent + chz_chosen_place(is) * sizeof(chz_message) + CHZ_MESSAGE + chz_chosen_from(is);
+}
+
+/* On a queue that no calls made: the answer is one that the call has, its place is in range, and what was chosen was there. A refused
+ * call changes nothing, others only the place that they name. What they leave in that place isn't compared any further. */
+static void compare_range(int *differs, uint64_t is)
+{
+    static const uint8_t refusals[][4] =
+        { [ADD] = { 0, 15, 27, 28 }, [CANCEL] = { 0, 29, 29, 29 }, [CHOOSE] = { 0, 30, 30, 30 } };
+    struct handed *h = &handed[0];
+    uint64_t place = call - calls == CHOOSE ? chz_chosen_place(is) : chz_value(is);
+    if (!memchr(refusals[call - calls], (int)chz_refused(is), 4) || chz_happened(is)) got(differs, "answer out of range", is);
+    else if (chz_refused(is) ? chz_value(is) != 0 : place >= CHZ_QUEUE) got(differs, "value out of range", is);
+    else if (!chz_refused(is)) {
+        chz_message was;
+        memcpy(&was, h->before + place * sizeof was, sizeof was);
+        if (call - calls == CHOOSE && (was.command != CHZ_DL_DATA_QUE || was.dl_data_que.ep_eui != N(1)))
+            got(differs, "no such entry stood there", is);
+        memcpy(h->after + place * sizeof(chz_message), h->lent + place * sizeof(chz_message), sizeof(chz_message));
+    }
+}
+
 static void compare_answer(int *differs, uint64_t is)
 {
-    if (must != is)
-        wrong(differs, "answer: got refused %u, happened %u, value %llu", chz_refused(is), chz_happened(is),
-            (unsigned long long)chz_value(is));
+    if (must == UNKNOWN) compare_range(differs, is);
+    else if (must != is) got(differs, "answer", is);
+    else if (call - calls == CHOOSE && !chz_refused(is)) {
+        const uint8_t *data = shown_by(is);
+        if (!data || chz_chosen_len(is) != N(4) || memcmp(data, handed[4].before, N(4)))
+            got(differs, "data that aren't the chosen ones", is);
+    }
 }
 
 static void print_case(void)
@@ -289,7 +402,7 @@ static void call_in_mode(int *differs)
     }
     _mm_setcsr(modes[0]);
     for (int i = 0; i < MOST_ARGUMENTS && call->arguments[i].name; i++)
-        if (call->arguments[i].shape != 'n') compare_buffer(differs, i);
+        if (is_lent(i)) compare_buffer(differs, i);
 }
 
 /* A case has passed if it has in both modes. */
@@ -309,6 +422,10 @@ static void one_case(uint8_t which)
     }
     if (differs) failed[which]++;
     else passed[which]++;
+    if (must == UNKNOWN) {
+        unknown[which]++;
+        return;
+    }
     refused[which][chz_refused(must)]++;
     happened[which][chz_happened(must)]++;
 }
@@ -356,6 +473,7 @@ int main(int words, char **word)
         printf("%-12s %7llu passed, %llu failed;", calls[i].name, (unsigned long long)passed[i], (unsigned long long)failed[i]);
         print_counts(" refused", 0, refused[i]);
         print_counts("; happened", 1, happened[i]);
+        if (unknown[i]) printf("; on any bytes %llu", (unsigned long long)unknown[i]);
         printf("\n");
         good += passed[i];
         bad += failed[i];

@@ -3,14 +3,23 @@
 //! The stream is "CHZCASES" and the seed; then cases; then the byte 255 and the count of cases. A case is the call's number,
 //! its arguments in the header's order and the expected answer. A number takes eight bytes, little endian. A buffer is the
 //! count of its elements, its bytes before the call, and 0 (it must stay so) or 1 and its bytes after the call.
+//!
+//! A queue is long and little of it changes: it is the count of its bytes; 0 and its bytes before the call, or 1 (it is as the
+//! last case with a queue left it); and 0 (it must stay so) or 1, where the bytes start that change, how many, and these after
+//! the call. Behind the arguments of chz_choose stand the data that its answer shows. On a queue that no calls made an answer
+//! isn't known: it is UNKNOWN, and means that the call must end and stay in range.
 
-use crate::reference::calls::{self, Columns};
+use crate::reference::calls::{self, Columns, Store};
 use crate::reference::image::Image;
 use std::io::{BufWriter, Stdout, Write};
 
 pub struct Stream {
     out: BufWriter<Stdout>,
     cases: u64,
+    /// The queue as the last case with one left it.
+    left: Vec<u8>,
+    /// A queue for records that are added one by one.
+    kept: Option<Store>,
     /// How many messages were read, written or arrived.
     pub messages: u64,
 }
@@ -29,6 +38,17 @@ enum Call {
     Withdraw,
     Uplink,
     Form,
+    Add,
+    Cancel,
+    Choose,
+    Sound,
+}
+
+const UNKNOWN: u64 = u64::MAX;
+
+/// The queue ID of a downlink's image.
+fn que_id(image: &Image) -> u64 {
+    image.message.get(24..32).map_or(0, |id| u64::from_le_bytes(id.try_into().expect("eight bytes")))
 }
 
 struct Case(Vec<u8>);
@@ -63,6 +83,13 @@ impl Case {
         self
     }
 
+    /// Bytes that are shown by the answer, not lent.
+    fn shown(mut self, bytes: &[u8]) -> Case {
+        self = self.number(bytes.len() as u64);
+        self.0.extend_from_slice(bytes);
+        self
+    }
+
     fn columns(self, before: &Columns, after: &Columns) -> Case {
         let wide = |column: &[u64]| column.iter().flat_map(|entry| entry.to_le_bytes()).collect::<Vec<u8>>();
         let short = |column: &[u16]| column.iter().flat_map(|entry| entry.to_le_bytes()).collect::<Vec<u8>>();
@@ -77,7 +104,7 @@ impl Case {
 
 impl Stream {
     pub fn start(out: Stdout, seed: u64) -> Stream {
-        let mut stream = Stream { out: BufWriter::new(out), cases: 0, messages: 0 };
+        let mut stream = Stream { out: BufWriter::new(out), cases: 0, left: Vec::new(), kept: None, messages: 0 };
         stream.put(b"CHZCASES");
         stream.put(&seed.to_le_bytes());
         stream
@@ -151,6 +178,70 @@ impl Stream {
         let answer = calls::lost(&mut after);
         self.case(Case::new(Call::Lost).buffer(session, &after), answer);
         (answer, after)
+    }
+
+    /// A case of a call with a queue, up to its queue.
+    fn on_queue(&mut self, call: Call, before: &[u8], after: &[u8]) -> Case {
+        let mut case = Case::new(call).number(before.len() as u64);
+        let same = before == self.left;
+        case.0.push(u8::from(same));
+        if !same {
+            case.0.extend_from_slice(before);
+        }
+        case.0.push(u8::from(before != after));
+        if let Some(first) = before.iter().zip(after).position(|(one, other)| one != other) {
+            let last = before.iter().zip(after).rposition(|(one, other)| one != other).expect("there is a first");
+            case = case.number(first as u64).shown(&after[first..=last]);
+        }
+        self.left = after.to_vec();
+        case
+    }
+
+    /// The queue calls leave the queue as the call does.
+    pub fn add(&mut self, store: &mut Store, image: &Image) -> u64 {
+        let before = store.bytes.clone();
+        let answer = calls::add(store, image);
+        let case = self.on_queue(Call::Add, &before, &store.bytes).image(image, image);
+        self.case(case, answer)
+    }
+
+    pub fn cancel(&mut self, store: &mut Store, que_id: u64) -> u64 {
+        let before = store.bytes.clone();
+        let answer = calls::cancel(store, que_id);
+        let case = self.on_queue(Call::Cancel, &before, &store.bytes).number(que_id);
+        self.case(case, answer)
+    }
+
+    /// The answer and the data that it shows.
+    pub fn choose(&mut self, store: &mut Store, meter: u64, counter: u32, expected: u8) -> (u64, Vec<u8>) {
+        let before = store.bytes.clone();
+        let (answer, data) = calls::choose(store, meter, counter, expected);
+        let case = self.on_queue(Call::Choose, &before, &store.bytes).number(meter).number(counter.into());
+        (self.case(case.number(expected.into()).shown(&data), answer), data)
+    }
+
+    /// The record is added to a queue that is kept for this, and cancelled again.
+    pub fn queued(&mut self, image: &Image) {
+        let mut store = self.kept.take().unwrap_or_else(Store::empty);
+        if self.add(&mut store, image) & 0xFF == 0 {
+            self.cancel(&mut store, que_id(image));
+        }
+        self.kept = Some(store);
+    }
+
+    pub fn sound(&mut self, bytes: &[u8]) -> u64 {
+        let case = self.on_queue(Call::Sound, bytes, bytes);
+        self.case(case, calls::sound(bytes))
+    }
+
+    /// The three calls that change a queue, on one that no calls made.
+    pub fn on_any_bytes(&mut self, bytes: &[u8], image: &Image, meter: u64, counter: u32, expected: u8) {
+        let case = self.on_queue(Call::Add, bytes, bytes).image(image, image);
+        self.case(case, UNKNOWN);
+        let case = self.on_queue(Call::Cancel, bytes, bytes).number(que_id(image));
+        self.case(case, UNKNOWN);
+        let case = self.on_queue(Call::Choose, bytes, bytes).number(meter).number(counter.into()).number(expected.into());
+        self.case(case.shown(&[]), UNKNOWN);
     }
 
     pub fn find(&mut self, columns: &Columns, meter: u64) -> u64 {

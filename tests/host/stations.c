@@ -6,6 +6,7 @@
 struct sim sims[STATIONS];
 struct fate fate[METERS][COUNTERS];
 uint32_t counters[METERS];
+struct downlink downlinks[DOWNLINKS];
 unsigned long discarded;
 
 void wire_put(struct wire *w, const uint8_t *bytes, size_t len)
@@ -60,6 +61,7 @@ void sim_send(struct sim *s, bool damaged)
     chz_message m = { .command = CHZ_PING, .op_id = s->queue[s->sent].id };
     unsigned meter = s->queue[s->sent].meter, counter = s->queue[s->sent++].counter;
     if (counter) m.command = CHZ_UL_DATA, m.ul_data = (chz_ul_data){ .packet = { .ep_eui = meter + 1, .packet_cnt = counter } };
+    if (counter) m.ul_data.dl_open = counter % 2;
     if (damaged) fate[meter][counter].damaged = true;
     say(s, m, damaged);
 }
@@ -83,6 +85,14 @@ static void take_con_rsp(struct sim *s, bool resumed)
     say_short(s, CHZ_CON_CMP, 0);
 }
 
+static void take_start(struct sim *s, const chz_message *m)
+{
+    bool fresh = m->op_id < s->seen;
+    if (fresh) s->seen = m->op_id;
+    if (fresh && m->command == CHZ_DL_DATA_QUE) downlinks[m->dl_data_que.que_id].taken++;
+    say_short(s, m->command == CHZ_PING ? CHZ_PING_RSP : CHZ_DL_DATA_QUE_RSP, m->op_id);
+}
+
 void sim_listen(struct sim *s)
 {
     chz_message m;
@@ -92,8 +102,7 @@ void sim_listen(struct sim *s)
     wire_drop(&s->down, chz_value(frame));
     if (m.command == CHZ_CON_RSP) take_con_rsp(s, m.con_rsp.sn_resume);
     if (m.command == CHZ_PING_RSP || m.command == CHZ_UL_DATA_RSP) take_rsp(s, &m);
-    if (m.command == CHZ_PING && m.op_id < s->seen) s->seen = m.op_id;
-    if (m.command == CHZ_PING) say_short(s, CHZ_PING_RSP, m.op_id);
+    if (m.command == CHZ_PING || m.command == CHZ_DL_DATA_QUE) take_start(s, &m);
 }
 
 void sims_hear(unsigned meter, unsigned by, bool ping)

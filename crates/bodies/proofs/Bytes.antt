@@ -15,7 +15,7 @@ use Rattle.element.specs.Meaning.{Elements}
 use Rattle.field.specs.declared.Judged.{Judged}
 use Rattle.field.specs.Kind.{Kind, Value, bytes16, bytes4, profileText}
 use Rattle.field.specs.Judge.{when, onSome, partsOf, octetsIn, stringSized, judge}
-use Rattle.field.specs.{Cell.Cell, Cell.judged, code.Told.cellState, code.Told.toldOf, code.At.shallowAt, code.At.cellAt, code.At.stringFilled}
+use Rattle.field.specs.{Cell.Cell, Cell.judged, code.Told.cellState, code.Told.toldOf, code.At.shallowAt, code.At.seenAt, code.At.cellAt, code.At.stringFilled}
 use Rattle.field.specs.{code.Into.readInto}
 use Rattle.field.proofs.Intos.{into-good}
 use Rattle.message.specs.Record.{wordIn, stringOf}
@@ -73,7 +73,7 @@ pub put-zeros : (n : ℕ) (d : List ℕ) → length d ≤ n → putAt (replicate
 unfolding putAt
 put-zeros n d h = simp (zero-add, length-replicate, le-leb (length d) n h, drop-repeat 0 (length d) n)
 
-good-at : (s : List ℕ) (k : Kind) (v : Value) (p : ℕ) → judge k (shallowAt s (suc (suc p))) ≡ some v → cellAt k s (suc (suc p)) ≡ Cell.good v
+good-at : (s : List ℕ) (k : Kind) (v : Value) (p : ℕ) → judge k (seenAt k s (suc (suc p))) ≡ some v → cellAt k s (suc (suc p)) ≡ Cell.good v
 unfolding cellAt
 good-at s k v p e = ap judged e
 

@@ -9,8 +9,8 @@ use mir.Val.{SFits, ofZ, toZ}
 use mir.ValLaws.{toZ-ofZ}
 use Rattle.names.specs.{Names.placeIn, code.Slots.keys, code.Slots.slotOf}
 use Rattle.field.specs.Kind.{Kind, unsigned64, unsigned32, unsigned16, unsigned8, signed32, stationId, centreId, bytes16, bytes4, userBytes, profileText, statusText}
-use Rattle.field.specs.{Cell.Cell, code.At.cellAt, code.Into.readInto}
-use Rattle.message.specs.{Fields.described, Fields.lists, Fields.listIn, code.Cells.cellsAt}
+use Rattle.field.specs.{Cell.Cell, Cell.here, code.At.cellAt, code.Into.readInto}
+use Rattle.message.specs.{Fields.described, Fields.lists, Fields.listIn, Record.markIn, code.Cells.cellsAt}
 use Rattle.message.specs.Reading.{graded, gravest, lookIn, placeAmong}
 use Rattle.record.specs.declared.Body.{Body}
 use Rattle.record.specs.Record.{bodyIn}
@@ -19,6 +19,9 @@ use Rattle.bodies.specs.declared.{HeldSixteen.HeldSixteen, HeldCode.Held
 use Rattle.bodies.specs.declared.{HeldShort.HeldShort, HeldProfile.HeldProfile, HeldFour.HeldFour, HeldPacket.HeldPacket, Bodied.Bodied}
 use Rattle.bodies.specs.code.Held.{judgedAs, wordAs, countAs, shortAs, octetAs, idAs, codeAs, markAs, realAs, positionAs, versionAs, fourAs, sixteenAs, profileAs}
 use Rattle.bodies.specs.code.Read.{plainOf, packetAs, Bodying, bodying, crossedBy, bodiedOf}
+
+no-more : (x : ℕ) → max x 0 ≡ x
+no-more x = omega arith
 
 module _ (s at : List ℕ) where
   -- the cell of a kind whose key has a slot
@@ -36,23 +39,23 @@ module _ (s at : List ℕ) where
       rw (z, y, x, q, p, i1, i2, i3, i4)
 
   pub con-is : (w : ℕ) (a : HeldVersion) (b : HeldWord) (c : HeldMark) (d : HeldPosition) (e : HeldSixteen) (f g : HeldId) (x : ℕ)
-      → a ≡ versionAs true 2 (on Kind.versions 2) w → b ≡ wordAs true 3 (on unsigned64 3) (a .worst) → c ≡ markAs 4 (on Kind.flags 4) (b .worst)
+      → a ≡ versionAs true 2 (on Kind.versions 2) w → b ≡ wordAs true 3 (on unsigned64 3) (a .worst) → c ≡ markAs true 4 (on Kind.flags 4) (b .worst)
       → d ≡ positionAs 5 (on Kind.positions 5) (c .worst) → e ≡ sixteenAs 6 (on bytes16 6) (d .worst) → f ≡ idAs false 7 (on stationId 7) (e .worst)
       → g ≡ idAs false 8 (on centreId 8) (f .worst) → x ≡ gravest (g .worst) 9 described (cellsAt described s at)
       → _≡_ {A = Bodied}
       (record {
         worst = x;
-        body = Body.Con (record { version = a .value; «bs_eui» = b .value .value; bidi = c .value; «geo_location» = d .value; «sn_bs_uuid» = e .value; «sn_bs_op_id» = f .value; «sn_sc_op_id» = g .value });
+        body = Body.Con (record { version = a .value; «bs_eui» = b .value .value; bidi = c .value .value; «geo_location» = d .value; «sn_bs_uuid» = e .value; «sn_bs_op_id» = f .value; «sn_sc_op_id» = g .value });
       })
       (plainOf s at 0 w)
   unfolding plainOf judgedAs versionAs wordAs markAs positionAs sixteenAs idAs gravest cellsAt lists listIn lookIn bodyIn slotOf placeIn keys
   con-is w a b c d e f g x pa pb pc pd pe pf pg px = rw (px, pg, pf, pe, pd, pc, pb, pa)
 
   pub con-rsp-is : (w : ℕ) (a : HeldVersion) (b : HeldWord) (c : HeldMark) (d : HeldSixteen) (x : ℕ)
-      → a ≡ versionAs false 2 (on Kind.versions 2) w → b ≡ wordAs true 3 (on unsigned64 14) (a .worst) → c ≡ markAs 4 (on Kind.flags 15) (b .worst)
+      → a ≡ versionAs false 2 (on Kind.versions 2) w → b ≡ wordAs true 3 (on unsigned64 14) (a .worst) → c ≡ markAs true 4 (on Kind.flags 15) (b .worst)
       → d ≡ sixteenAs 5 (on bytes16 16) (c .worst) → x ≡ gravest (d .worst) 6 described (cellsAt described s at)
       → _≡_ {A = Bodied}
-      (record { worst = x; body = Body.ConRsp (record { version = a .value; «sc_eui» = b .value .value; «sn_resume» = c .value; «sn_sc_uuid» = d .value }) })
+      (record { worst = x; body = Body.ConRsp (record { version = a .value; «sc_eui» = b .value .value; «sn_resume» = c .value .value; «sn_sc_uuid» = d .value }) })
       (plainOf s at 1 w)
   unfolding plainOf judgedAs versionAs wordAs markAs sixteenAs gravest cellsAt lists listIn lookIn bodyIn slotOf placeIn keys
   con-rsp-is w a b c d x pa pb pc pd px = rw (px, pd, pc, pb, pa)
@@ -102,30 +105,32 @@ module _ (s at : List ℕ) where
 
     pub ul-data-is : (user room : List ℕ) (a b : HeldOctet) (c d e : HeldMark) (f g x y : ℕ)
         → room ≡ readInto s (getD at 43 0) user → a ≡ octetAs true 10 (on userBytes 43) (p .worst) → b ≡ octetAs false 11 (on unsigned8 44) (a .worst)
-        → c ≡ markAs 12 (on Kind.flags 45) (b .worst) → d ≡ markAs 13 (on Kind.flags 46) (c .worst) → e ≡ markAs 14 (on Kind.flags 47) (d .worst)
-        → f ≡ judgedAs false 15 (on Kind.words 48) (e .worst) → g ≡ judgedAs false 16 (on Kind.maps 35) f → x ≡ crossedBy (d .value) (c .value) → y ≡ max g x
+        → c ≡ markAs true 12 (on Kind.flags 45) (b .worst) → d ≡ markAs true 13 (on Kind.flags 46) (c .worst) → e ≡ markAs true 14 (on Kind.flags 47) (d .worst)
+        → f ≡ judgedAs false 15 (on Kind.words 48) (e .worst) → g ≡ judgedAs false 16 (on Kind.maps 35) f → x ≡ crossedBy (d .value .value) (c .value .here) (c .value .value) → y ≡ max g x
         → _≡_ {A = Bodying}
         (bodying
-        (record { worst = y; body = Body.UlData (record { packet = p .value; «user_len» = a .value; format = b .value; «dl_open» = c .value; «response_exp» = d .value; «dl_ack» = e .value }) })
+        (record { worst = y; body = Body.UlData (record { packet = p .value; «user_len» = a .value; format = b .value; «dl_open» = c .value .value; «response_exp» = d .value .value; «dl_ack» = e .value .value }) })
         room)
         (bodiedOf s at 7 user w)
     unfolding bodiedOf plainOf packetAs judgedAs octetAs markAs crossedBy gravest cellsAt lists listIn lookIn placeAmong bodyIn slotOf placeIn keys
-    ul-data-is user room a b c d e f g x y pr pa pb pc pd pe pf pg px py = rw (py, px, pg, pf, pe, pd, pc, pb, pa, pp, pr)
+    ul-data-is user room a b c d e f g x y pr pa pb pc pd pe pf pg px py =
+        let o = on Kind.flags 45 in
+        rw (py, px, pg, pf, pe, pd, pc, pb, pa, pp, pr, no-more (crossedBy (markIn (on Kind.flags 46)) (here o) (markIn o)))
 
   pub det-rsp-is : (w : ℕ) (a : HeldFour) → a ≡ fourAs 2 (on bytes4 34) w → _≡_ {A = Bodied} (record { worst = a .worst; body = Body.DetRsp (a .value) }) (plainOf s at 4 w)
   unfolding plainOf judgedAs fourAs gravest cellsAt lists listIn lookIn bodyIn slotOf placeIn keys
   det-rsp-is w a pa = rw pa
 
   pub att-prp-is : (w : ℕ) (a : HeldWord) (b : HeldMark) (c : HeldSixteen) (d : HeldShort) (e : HeldCount) (f g h i : HeldMark)
-      → a ≡ wordAs true 2 (on unsigned64 26) w → b ≡ markAs 3 (on Kind.flags 4) (a .worst) → c ≡ sixteenAs 4 (on bytes16 36) (b .worst)
-      → d ≡ shortAs 5 (on unsigned16 37) (c .worst) → e ≡ countAs 6 (on unsigned32 38) (d .worst) → f ≡ markAs 7 (on Kind.flags 39) (e .worst)
-      → g ≡ markAs 8 (on Kind.flags 40) (f .worst) → h ≡ markAs 9 (on Kind.flags 41) (g .worst) → i ≡ markAs 10 (on Kind.flags 42) (h .worst)
+      → a ≡ wordAs true 2 (on unsigned64 26) w → b ≡ markAs true 3 (on Kind.flags 4) (a .worst) → c ≡ sixteenAs 4 (on bytes16 36) (b .worst)
+      → d ≡ shortAs 5 (on unsigned16 37) (c .worst) → e ≡ countAs 6 (on unsigned32 38) (d .worst) → f ≡ markAs true 7 (on Kind.flags 39) (e .worst)
+      → g ≡ markAs true 8 (on Kind.flags 40) (f .worst) → h ≡ markAs true 9 (on Kind.flags 41) (g .worst) → i ≡ markAs true 10 (on Kind.flags 42) (h .worst)
       → _≡_ {A = Bodied}
       (record {
         worst = i .worst;
         body =
             Body.AttPrp
-            (record { «ep_eui» = a .value .value; bidi = b .value; «nwk_sn_key» = c .value; «sh_addr» = d .value; «last_packet_cnt» = e .value; «dual_chan» = f .value; repetition = g .value; «wide_carr_off» = h .value; «long_blk_dist» = i .value });
+            (record { «ep_eui» = a .value .value; bidi = b .value .value; «nwk_sn_key» = c .value; «sh_addr» = d .value; «last_packet_cnt» = e .value; «dual_chan» = f .value .value; repetition = g .value .value; «wide_carr_off» = h .value .value; «long_blk_dist» = i .value .value });
       })
       (plainOf s at 5 w)
   unfolding plainOf judgedAs wordAs markAs sixteenAs shortAs countAs gravest cellsAt lists listIn lookIn bodyIn slotOf placeIn keys
@@ -135,12 +140,12 @@ module _ (s at : List ℕ) where
   unfolding plainOf judgedAs wordAs gravest cellsAt lists listIn lookIn bodyIn slotOf placeIn keys
   det-prp-is w a pa = rw pa
 
-pub crossed-so : (expected opened : Bool) (r : ℕ) → expected && not opened ≡ true → r ≡ graded 1 13 → r ≡ crossedBy expected opened
+pub crossed-so : (expected known opened : Bool) (r : ℕ) → expected && (known && not opened) ≡ true → r ≡ graded 1 13 → r ≡ crossedBy expected known opened
 unfolding crossedBy
-crossed-so expected opened r t e = e ∙ sym (simp t)
+crossed-so expected known opened r t e = e ∙ sym (simp t)
 
-pub crossed-not : (expected opened : Bool) → expected && not opened ≡ false → 0 ≡ crossedBy expected opened
+pub crossed-not : (expected known opened : Bool) → expected && (known && not opened) ≡ false → 0 ≡ crossedBy expected known opened
 unfolding crossedBy
-crossed-not expected opened t = sym (simp t)
+crossed-not expected known opened t = sym (simp t)
 
 pub ruleset commands = (described-is, con-is, con-rsp-is, status-is, packet-is, det-is, ul-data-is, det-rsp-is, att-prp-is, det-prp-is, crossed-so, crossed-not)

@@ -4,3 +4,4 @@ pub mod Bytes
 pub mod Parts
 pub mod Commands
 pub mod Whole
+pub mod Downlinks

@@ -13,7 +13,7 @@ use Rattle.field.specs.Kind.{Kind, unsigned32, unsigned16, unsigned8, signed32,
 use Rattle.field.specs.{Cell.Cell, Cell.here, code.At.cellAt}
 use Rattle.field.specs.code.Told.{cellState, toldOf, locatedOf, releasedOf}
 use Rattle.message.specs.{Record.wordIn, Record.idIn, Record.markIn, Reading.cellFault, Reading.graded}
-use Rattle.bodies.specs.code.Held.{judgedAs, wordAs, countAs, shortAs, octetAs, idAs, codeAs, markAs, realAs, positionAs, versionAs}
+use Rattle.bodies.specs.code.Held.{judgedAs, wordAs, countAs, shortAs, octetAs, idAs, codeAs, markAs, partsAs, realAs, positionAs, versionAs}
 use Rattle.bodies.proofs.Worth.{Most, worth, here-state, low-word, id-word, code-word, mark-word}
 
 -- a fault
@@ -136,14 +136,6 @@ module _ (s : List ℕ) (p i w r : ℕ) (j : Judged) where
         toZ-ofZ w32 z f ∙ (q ∙ (ap (λ (n : ℕ). signedOf 32 (n % 2 ^ 32)) (word-of c j e) ∙ code-word 0x80000000 0x7FFFFFFF (omega arith) (omega arith) c (worth signed32 s p))) in
         cc
 
-    pub mark-is : j ≡ toldOf (cellAt Kind.flags s p) → record { worst = r; value = eqb (j .word) 1 } ≡ markAs i (cellAt Kind.flags s p) w
-    unfolding markAs
-    mark-is e =
-        let c = cellAt Kind.flags s p in
-        let a = judged-is c j e true i w r g in
-        let b : eqb (j .word) 1 ≡ markIn c = ap (λ (n : ℕ). eqb n 1) (word-of c j e) ∙ mark-word c (worth Kind.flags s p) in
-        cc
-
     pub letters-is : j ≡ toldOf (cellAt statusText s p) → record { worst = r; value = j .word % 256 } ≡ octetAs true i (cellAt statusText s p) w
     letters-is e = octet-is (cellAt statusText s p) j e true i w r g (low-word statusText 8 64 (Most.text 0 64) (omega arith) (cellAt statusText s p) (worth statusText s p))
 
@@ -151,6 +143,34 @@ module _ (s : List ℕ) (p i w r : ℕ) (j : Judged) where
     octets-is n l q =
         let e : j ≡ toldOf (cellAt userBytes s p) = q ∙ ap (λ (m : ℕ). toldOf (cellAt (Kind.arrays 0 m) s p)) l in
         octet-is (cellAt userBytes s p) j e true i w r g (low-word userBytes 8 245 (Most.octets 0 245) (omega arith) (cellAt userBytes s p) (worth userBytes s p))
+
+  pub mark-is : (must : Bool) → Passed r i w must (j .state) → j ≡ toldOf (cellAt Kind.flags s p)
+      → record { worst = r; value = record { here = eqb (j .state) 0; value = eqb (j .word) 1 } } ≡ markAs must i (cellAt Kind.flags s p) w
+  unfolding markAs
+  mark-is must g e =
+      let c = cellAt Kind.flags s p in
+      let a = judged-is c j e must i w r g in
+      let h = here-is c j e in
+      let b : eqb (j .word) 1 ≡ markIn c = ap (λ (n : ℕ). eqb n 1) (word-of c j e) ∙ mark-word c (worth Kind.flags s p) in
+      cc
+
+  parts-is : (k : Kind) (must : Bool) → Most k 16 → Passed r i w must (j .state) → j ≡ toldOf (cellAt k s p)
+      → record { worst = r; state = j .state; count = j .word % 256 } ≡ partsAs must i (cellAt k s p) w
+  unfolding partsAs
+  parts-is k must l g e =
+      let c = cellAt k s p in
+      let a = judged-is c j e must i w r g in
+      let h : j .state ≡ cellState c = ap (λ (x : Judged). x .state) e in
+      let b : j .word % 256 ≡ wordIn c = ap (λ (n : ℕ). n % 256) (word-of c j e) ∙ low-word k 8 16 l (omega arith) c (worth k s p) in
+      cc
+
+  pub counters-is : Passed r i w false (j .state) → j ≡ toldOf (cellAt (Kind.counters 16) s p)
+      → record { worst = r; state = j .state; count = j .word % 256 } ≡ partsAs false i (cellAt (Kind.counters 16) s p) w
+  counters-is g e = parts-is (Kind.counters 16) false (Most.counters 16) g e
+
+  pub entries-is : Passed r i w true (j .state) → j ≡ toldOf (cellAt (Kind.pieces 16 245 800) s p)
+      → record { worst = r; state = j .state; count = j .word % 256 } ≡ partsAs true i (cellAt (Kind.pieces 16 245 800) s p) w
+  entries-is g e = parts-is (Kind.pieces 16 245 800) true (Most.pieces 16 245 800) g e
 
   pub format-is : Passed r i w false (j .state) → j ≡ toldOf (cellAt unsigned8 s p) → record { worst = r; value = j .word % 256 } ≡ octetAs false i (cellAt unsigned8 s p) w
   format-is g e = octet-is (cellAt unsigned8 s p) j e false i w r g (low-word unsigned8 8 0xFF (Most.whole 0xFF) (omega arith) (cellAt unsigned8 s p) (worth unsigned8 s p))
@@ -175,4 +195,4 @@ module _ (c : Cell) (i w r : ℕ) where
       let b : eqb (j .state) 0 ≡ here c = ap (λ (x : Released). eqb (x .state) 0) e ∙ here-state c in
       cc
 
-pub ruleset parts = (judged-is, word-is, real-is, count-is, short-is, code-is, mark-is, letters-is, octets-is, format-is, number-is, position-is, version-is)
+pub ruleset parts = (judged-is, word-is, real-is, count-is, short-is, code-is, mark-is, letters-is, octets-is, counters-is, entries-is, format-is, number-is, position-is, version-is)

@@ -7,13 +7,13 @@ use Prim.Native.Nat.{ℕ, _≤_}
 use native.Mathlib.Omega.{arith}
 use lib.{Dec.leb, IntN.ℤ, IntN.pos, ListN.length}
 use borrow.Author.Tests.{leb-true, leb-false, le-leb}
-use Rattle.octets.specs.{Choice.either, Bytes.putAt}
+use Rattle.octets.specs.{Choice.either, Bytes.putAt, Pieces.strung}
 use Rattle.octets.proofs.Writing.{put-out}
 use Rattle.element.specs.Meaning.{Element}
 use Rattle.number.specs.declared.Number.{Number, the-variants.Signed, the-variants.Unsigned, the-variants.Real, the-variants.Not}
 use Rattle.number.specs.Number.{numberOf}
 use Rattle.field.specs.{Kind.Kind, Kind.Value, code.At.stringFilled}
-use Rattle.field.specs.Judge.{when, onSome, inRange, wholeIn, truthOf, textOf, partsOf, octetsIn, stringSized, judge}
+use Rattle.field.specs.Judge.{when, onSome, inRange, wholeIn, truthOf, textOf, partsOf, naturalsIn, octetsIn, piecesIn, countsSized, stringsSized, stringSized, judge}
 use Rattle.message.specs.Record.{stringOf}
 
 pub data IsWhole (lo hi : ℕ) : Value → Type 0 where
@@ -24,6 +24,11 @@ pub data IsMark : Value → Type 0 where
 
 pub data IsString (lo hi : ℕ) : Value → Type 0 where
   string : (d : List ℕ) → lo ≤ length d → length d ≤ hi → IsString lo hi (Value.string d)
+
+-- so many counters, and so many data entries
+pub data AreParts (many : ℕ) : Value → Type 0 where
+  counts : (ns : List ℕ) → length ns ≤ many → AreParts many (Value.counts ns)
+  strings : (ds : List (List ℕ)) → length ds ≤ many → AreParts many (Value.strings ds)
 
 module _ {A : Type 0} where
   never : {B : Type 0} (a : A) → none ≡ some a → B
@@ -91,6 +96,16 @@ sized-put d room = simp (le-leb 0 (length d) (omega arith)) (go (leb (length d) 
     go true e = refl
     go false e = sym (put-out room 0 d (omega (arith, leb-false (length d) (length room) e)))
 
+counts-sized : (many : ℕ) (ns : List ℕ) (v : Value) → countsSized many ns ≡ some v → AreParts many v
+counts-sized many ns v e =
+    let p = passed (leb (length ns) many) (Value.counts ns) v e in
+    subst (AreParts many) (p .1) (AreParts.counts ns (leb-true (length ns) many (p .0)))
+
+strings-sized : (many all : ℕ) (ds : List (List ℕ)) (v : Value) → stringsSized many all ds ≡ some v → AreParts many v
+strings-sized many all ds v e =
+    let p = passed (leb (length ds) many && leb (length (strung ds)) all) (Value.strings ds) v e in
+    subst (AreParts many) (p .1) (AreParts.strings ds (leb-true (length ds) many (first (leb (length ds) many) (leb (length (strung ds)) all) (p .0))))
+
 -- by the kind
 module _ (e : Element) (v : Value) where
   pub wholes-are : (lo hi : ℕ) → judge (Kind.wholes lo hi) e ≡ some v → IsWhole lo hi v
@@ -100,6 +115,14 @@ module _ (e : Element) (v : Value) where
   pub flags-are : judge Kind.flags e ≡ some v → IsMark v
   unfolding judge
   flags-are h = through _ v (truthOf e) h (λ b g. let p : Value.mark b ≡ v = cc in subst IsMark p (IsMark.mark b))
+
+  pub counters-are : (many : ℕ) → judge (Kind.counters many) e ≡ some v → AreParts many v
+  unfolding judge
+  counters-are many h = through _ v (partsOf e) h (λ es g. through (countsSized many) v (naturalsIn 0xFFFFFFFF es) g (λ ns k. counts-sized many ns v k))
+
+  pub pieces-are : (many most all : ℕ) → judge (Kind.pieces many most all) e ≡ some v → AreParts many v
+  unfolding judge
+  pieces-are many most all h = through _ v (partsOf e) h (λ es g. through (stringsSized many all) v (piecesIn most es) g (λ ds k. strings-sized many all ds v k))
 
   module _ (lo hi : ℕ) where
     pub arrays-are : judge (Kind.arrays lo hi) e ≡ some v → IsString lo hi v

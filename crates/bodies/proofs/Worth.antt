@@ -1,7 +1,7 @@
 -- What a cell holds, by its kind: a number below 2 ^ b is its lowest b bits, a signed one is the bits of its width, a mark is 1. A cell with no value holds zeros.
 -- Assumes nothing.
 use mathlib.Core.Path.{_≡_, refl, ap, _∙_}
-use mathlib.Core.{Bool.true, Bool.false, List.List, Option.Option, Option.some, Option.none}
+use mathlib.Core.{Bool.true, Bool.false, Bool._||_, List.List, Option.Option, Option.some, Option.none}
 use Prim.Native.Nat.{ℕ, zero, suc, _%_, _^_, _≤_, _<_}
 use native.Mathlib.Nat.{mod-eq-of-lt}
 use native.Mathlib.Omega.{arith}
@@ -12,10 +12,10 @@ use mir.Val.{SFits}
 use Rattle.octets.specs.Signed.{bitsOf, signedOf}
 use Rattle.octets.proofs.Signs.{signed-back}
 use Rattle.element.specs.Meaning.{Element}
-use Rattle.field.specs.{Kind.Kind, Kind.Value, Judge.inRange, Judge.judge, code.Told.cellState, code.At.shallowAt, code.At.cellAt}
+use Rattle.field.specs.{Kind.Kind, Kind.Value, Judge.inRange, Judge.judge, code.Told.cellState, code.At.seenAt, code.At.cellAt}
 use Rattle.field.specs.Cell.{Cell, judged, here, wordOf}
-use Rattle.message.specs.Record.{wordIn, idIn, markIn, idOf, markOf}
-use Rattle.bodies.proofs.Values.{IsWhole, IsMark, IsString, wholes-are, flags-are, arrays-are, texts-are}
+use Rattle.message.specs.{Record.wordIn, Record.idIn, Record.markIn, Record.idOf, Record.markOf, Reading.isValid}
+use Rattle.bodies.proofs.Values.{IsWhole, IsMark, IsString, AreParts, wholes-are, flags-are, arrays-are, counters-are, pieces-are, texts-are}
 
 -- a cell of a kind: no value, or one that the kind takes
 pub data Worth (k : Kind) : Cell → Type 0 where
@@ -32,7 +32,13 @@ pub worth : (k : Kind) (s : List ℕ) (p : ℕ) → Worth k (cellAt k s p)
 unfolding cellAt
 worth k s zero = missing
 worth k s (suc zero) = double
-worth k s (suc (suc p)) = of-judged k (shallowAt s (suc (suc p))) (judge k (shallowAt s (suc (suc p)))) refl
+worth k s (suc (suc p)) = of-judged k (seenAt k s (suc (suc p))) (judge k (seenAt k s (suc (suc p)))) refl
+
+pub valid-state : (c : Cell) → eqb (cellState c) 0 || eqb (cellState c) 2 ≡ isValid c
+valid-state Cell.missing = refl
+valid-state Cell.double = refl
+valid-state Cell.bad = refl
+valid-state (Cell.good v) = refl
 
 pub here-state : (c : Cell) → eqb (cellState c) 0 ≡ here c
 here-state Cell.missing = refl
@@ -45,6 +51,8 @@ pub data Most : Kind → ℕ → Type 0 where
   whole : (hi : ℕ) → Most (Kind.wholes 0 hi) hi
   octets : (lo hi : ℕ) → Most (Kind.arrays lo hi) hi
   text : (lo hi : ℕ) → Most (Kind.texts lo hi) hi
+  counters : (many : ℕ) → Most (Kind.counters many) many
+  pieces : (many most all : ℕ) → Most (Kind.pieces many most all) many
 
 whole-most : (hi : ℕ) (v : Value) → IsWhole 0 hi v → wordOf v ≤ hi
 whole-most hi _ (IsWhole.whole (pos n) e) = leb-true n hi e
@@ -53,9 +61,15 @@ whole-most hi _ (IsWhole.whole (negsuc k) e) = absurd (omega (arith, leb-true (s
 string-most : (lo hi : ℕ) (v : Value) → IsString lo hi v → wordOf v ≤ hi
 string-most lo hi _ (IsString.string d l h) = h
 
+parts-most : (many : ℕ) (v : Value) → AreParts many v → wordOf v ≤ many
+parts-most many _ (AreParts.counts ns h) = h
+parts-most many _ (AreParts.strings ds h) = h
+
 word-most : (k : Kind) (m : ℕ) → Most k m → (e : Element) (v : Value) → judge k e ≡ some v → wordOf v ≤ m
 word-most _ _ (Most.whole hi) e v j = whole-most hi v (wholes-are e v 0 hi j)
 word-most _ _ (Most.octets lo hi) e v j = string-most lo hi v (arrays-are e v lo hi j)
+word-most _ _ (Most.counters many) e v j = parts-most many v (counters-are e v many j)
+word-most _ _ (Most.pieces many most all) e v j = parts-most many v (pieces-are e v many most all j)
 word-most _ _ (Most.text lo hi) e v j = string-most lo hi v (texts-are e v lo hi j)
 
 cell-most : (k : Kind) (m : ℕ) → Most k m → (c : Cell) → Worth k c → wordIn c ≤ m

@@ -14,7 +14,7 @@ pub fn con(s: &[u8], at: &[u16; 64], worst: u16) -> Bodied
 {
     let a = part::version(s, at[slots::VERSION], part::MUST, listed::VERSION, worst);
     let b = part::word(s, at[slots::BS_EUI], part::MUST, listed::BS_EUI, a.worst);
-    let c = part::mark(s, at[slots::BIDI], listed::CON_BIDI, b.worst);
+    let c = part::mark(s, at[slots::BIDI], part::MUST, listed::CON_BIDI, b.worst);
     let d = part::position(
         s,
         at[slots::GEO_LOCATION],
@@ -50,7 +50,7 @@ pub fn con(s: &[u8], at: &[u16; 64], worst: u16) -> Bodied
         body: Body::Con(record::Con {
             version: release,
             bs_eui: b.value.value,
-            bidi: c.value,
+            bidi: c.value.value,
             geo_location: position,
             sn_bs_uuid: uuid,
             sn_bs_op_id: station,
@@ -64,7 +64,13 @@ pub fn con_rsp(s: &[u8], at: &[u16; 64], worst: u16) -> Bodied
 {
     let a = part::version(s, at[slots::VERSION], part::MAY, listed::VERSION, worst);
     let b = part::word(s, at[slots::SC_EUI], part::MUST, listed::SC_EUI, a.worst);
-    let c = part::mark(s, at[slots::SN_RESUME], listed::SN_RESUME, b.worst);
+    let c = part::mark(
+        s,
+        at[slots::SN_RESUME],
+        part::MUST,
+        listed::SN_RESUME,
+        b.worst,
+    );
     let d = part::sixteen(s, at[slots::SN_SC_UUID], listed::SN_SC_UUID, c.worst);
     let release = a.value;
     let uuid = d.value;
@@ -73,7 +79,7 @@ pub fn con_rsp(s: &[u8], at: &[u16; 64], worst: u16) -> Bodied
         body: Body::ConRsp(record::ConRsp {
             version: release,
             sc_eui: b.value.value,
-            sn_resume: c.value,
+            sn_resume: c.value.value,
             sn_sc_uuid: uuid,
         }),
     }

@@ -1,5 +1,6 @@
 // A command's fields one after the other, as document 01 lists them, each at its place in the bytes: the gravest fault, and the record.
 mod connect;
+mod downlink;
 mod part;
 mod propagate;
 mod received;
@@ -7,6 +8,7 @@ mod status;
 
 use connect::con;
 use connect::con_rsp;
+use downlink::dl_data_que;
 use message::listed;
 use names::numbers;
 use names::slots;
@@ -52,7 +54,14 @@ struct HeldCode {
 
 struct HeldMark {
     worst: u16,
-    value: bool,
+    value: message::MaybeMark,
+}
+
+// An array's parts: how the field stands, and how many they are.
+struct HeldParts {
+    worst: u16,
+    state: u8,
+    count: u8,
 }
 
 struct HeldReal {
@@ -91,6 +100,15 @@ struct HeldProfile {
 struct HeldPacket {
     worst: u16,
     value: record::Packet,
+}
+
+// A downlink's optional marks.
+struct HeldFlags {
+    worst: u16,
+    response_exp: message::MaybeMark,
+    response_prio: message::MaybeMark,
+    dl_wind_req: message::MaybeMark,
+    exp_only: message::MaybeMark,
 }
 
 struct Bodied {
@@ -132,22 +150,24 @@ pub fn read(s: &[u8], at: &[u16; 64], command: u8, user: &mut [u8; 245]) -> Grad
     }
 }
 
-// Nothing is read that the command has not.
+// Nothing is read that the command has not. Each command answers by itself: where the answers meet, all would carry the fields of all.
 fn body_of(s: &[u8], at: &[u16; 64], command: u8, user: &mut [u8; 245], worst: u16) -> Bodied
     ensures { λ r. ⌜ _≡_ {A = Bodying} (bodying r (now (user .exit))) (bodiedOf (now (s .entry)) (now (at .entry)) command (now (user .entry)) worst) ⌝ }
 {
     match command {
-        numbers::CON => con(s, at, worst),
-        numbers::CON_RSP => con_rsp(s, at, worst),
-        numbers::STATUS_RSP => status_rsp(s, at, worst),
-        numbers::DET => received::det(s, at, worst),
-        numbers::DET_RSP => received::det_rsp(s, at, worst),
-        numbers::ATT_PRP => att_prp(s, at, worst),
-        numbers::DET_PRP => det_prp(s, at, worst),
-        numbers::UL_DATA => received::ul_data(s, at, user, worst),
-        bare => Bodied {
-            worst: worst,
-            body: Body::Bare(bare),
-        },
+        numbers::CON => return con(s, at, worst),
+        numbers::CON_RSP => return con_rsp(s, at, worst),
+        numbers::STATUS_RSP => return status_rsp(s, at, worst),
+        numbers::DET => return received::det(s, at, worst),
+        numbers::DET_RSP => return received::det_rsp(s, at, worst),
+        numbers::ATT_PRP => return att_prp(s, at, worst),
+        numbers::DET_PRP => return det_prp(s, at, worst),
+        numbers::UL_DATA => return received::ul_data(s, at, user, worst),
+        numbers::DL_DATA_QUE => return dl_data_que(s, at, worst),
+        _ => {}
+    }
+    Bodied {
+        worst: worst,
+        body: Body::Bare(command),
     }
 }

@@ -5,6 +5,7 @@ use crate::HeldFour;
 use crate::HeldId;
 use crate::HeldMark;
 use crate::HeldOctet;
+use crate::HeldParts;
 use crate::HeldPosition;
 use crate::HeldProfile;
 use crate::HeldReal;
@@ -19,7 +20,7 @@ ghost use Prim.Native.Nat.{_^_, _≤_, _<_, max};
 ghost use Rattle.field.specs.Kind.{Kind, unsigned64, unsigned32, unsigned16, unsigned8, signed32, bytes16, bytes4, userBytes, profileText, statusText};
 ghost use Rattle.field.specs.{Cell.Cell, code.Told.cellState, code.At.cellAt, code.Into.readInto};
 ghost use Rattle.message.specs.Reading.{cellFault, graded};
-ghost use Rattle.bodies.specs.code.Held.{judgedAs, wordAs, countAs, shortAs, octetAs, idAs, codeAs, markAs, realAs, positionAs, versionAs, exactly, fourIf, sixteenIf, fourAs, sixteenAs, profileAs};
+ghost use Rattle.bodies.specs.code.Held.{judgedAs, wordAs, countAs, shortAs, octetAs, idAs, codeAs, markAs, partsAs, realAs, positionAs, versionAs, exactly, fourIf, sixteenIf, fourAs, sixteenAs, profileAs};
 
 // Mandatory or not.
 pub const MUST: bool = true;
@@ -41,11 +42,11 @@ const MOST16: u64 = 0xFFFF;
 const MOST8: u64 = 0xFF;
 
 // How a field's value stands, as `field` says it.
-const GOOD: u8 = 0;
+pub const GOOD: u8 = 0;
 
 pub const INVALID: u8 = 1;
 
-const MISSING: u8 = 2;
+pub const MISSING: u8 = 2;
 
 // The last place that a list may have.
 const LAST: u8 = 63;
@@ -54,6 +55,15 @@ const LAST: u8 = 63;
 const MOST_MESSAGE: usize = 64;
 
 const MOST_PROFILE: usize = 16;
+
+// How many counters and data entries a downlink has at most, how many bytes each of these, and how many all together.
+const MOST_COUNTERS: usize = 16;
+
+const MOST_ENTRIES: usize = 16;
+
+const MOST_ENTRY: usize = 245;
+
+const MOST_TOGETHER: usize = 800;
 
 // A missing field that is not mandatory is no fault.
 fn fault_of(must: bool, state: u8) -> u8
@@ -173,14 +183,17 @@ pub fn code(s: &[u8], p: u16, i: u8, worst: u16) -> HeldCode
     }
 }
 
-pub fn mark(s: &[u8], p: u16, i: u8, worst: u16) -> HeldMark
+pub fn mark(s: &[u8], p: u16, must: bool, i: u8, worst: u16) -> HeldMark
     requires { ⌜ i < 64 ⌝ }
-    ensures { λ r. ⌜ r ≡ markAs i (cellAt Kind.flags (now (s .entry)) p) worst ⌝ }
+    ensures { λ r. ⌜ r ≡ markAs must i (cellAt Kind.flags (now (s .entry)) p) worst ⌝ }
 {
     let j = field::flag_cell(s, p as usize);
     HeldMark {
-        worst: passed(worst, i, MUST, j.state),
-        value: j.word == 1,
+        worst: passed(worst, i, must, j.state),
+        value: message::MaybeMark {
+            here: j.state == GOOD,
+            value: j.word == 1,
+        },
     }
 }
 
@@ -195,6 +208,46 @@ pub fn real(s: &[u8], p: u16, must: bool, i: u8, worst: u16) -> HeldReal
             here: j.state == GOOD,
             value: j.figure,
         },
+    }
+}
+
+// A real that single precision holds exactly.
+pub fn single(s: &[u8], p: u16, i: u8, worst: u16) -> HeldReal
+    requires { ⌜ i < 64 ⌝ }
+    ensures { λ r. ⌜ r ≡ realAs false i (cellAt Kind.singles (now (s .entry)) p) worst ⌝ }
+{
+    let j = field::single_cell(s, p as usize);
+    HeldReal {
+        worst: passed(worst, i, MAY, j.state),
+        value: message::MaybeReal {
+            here: j.state == GOOD,
+            value: j.figure,
+        },
+    }
+}
+
+// How many counters there are, and how many data entries; both are looked at where they stand.
+pub fn counters(s: &[u8], p: u16, i: u8, worst: u16) -> HeldParts
+    requires { ⌜ i < 64 ⌝ }
+    ensures { λ r. ⌜ r ≡ partsAs false i (cellAt (Kind.counters 16) (now (s .entry)) p) worst ⌝ }
+{
+    let j = field::counters_cell(s, p as usize, MOST_COUNTERS);
+    HeldParts {
+        worst: passed(worst, i, MAY, j.state),
+        state: j.state,
+        count: (j.word % 0x100) as u8,
+    }
+}
+
+pub fn entries(s: &[u8], p: u16, i: u8, worst: u16) -> HeldParts
+    requires { ⌜ i < 64 ⌝ }
+    ensures { λ r. ⌜ r ≡ partsAs true i (cellAt (Kind.pieces 16 245 800) (now (s .entry)) p) worst ⌝ }
+{
+    let j = field::pieces_cell(s, p as usize, MOST_ENTRIES, MOST_ENTRY, MOST_TOGETHER);
+    HeldParts {
+        worst: passed(worst, i, MUST, j.state),
+        state: j.state,
+        count: (j.word % 0x100) as u8,
     }
 }
 

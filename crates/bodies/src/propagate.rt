@@ -11,7 +11,13 @@ pub fn att_prp(s: &[u8], at: &[u16; 64], worst: u16) -> Bodied
     ensures { λ r. ⌜ r ≡ plainOf (now (s .entry)) (now (at .entry)) 5 worst ⌝ }
 {
     let a = part::word(s, at[slots::EP_EUI], part::MUST, listed::EP_EUI, worst);
-    let b = part::mark(s, at[slots::BIDI], listed::ATT_PRP_BIDI, a.worst);
+    let b = part::mark(
+        s,
+        at[slots::BIDI],
+        part::MUST,
+        listed::ATT_PRP_BIDI,
+        a.worst,
+    );
     let c = part::sixteen(s, at[slots::NWK_SN_KEY], listed::NWK_SN_KEY, b.worst);
     let d = part::short(s, at[slots::SH_ADDR], listed::SH_ADDR, c.worst);
     let e = part::count(
@@ -20,23 +26,47 @@ pub fn att_prp(s: &[u8], at: &[u16; 64], worst: u16) -> Bodied
         listed::LAST_PACKET_CNT,
         d.worst,
     );
-    let f = part::mark(s, at[slots::DUAL_CHAN], listed::DUAL_CHAN, e.worst);
-    let g = part::mark(s, at[slots::REPETITION], listed::REPETITION, f.worst);
-    let h = part::mark(s, at[slots::WIDE_CARR_OFF], listed::WIDE_CARR_OFF, g.worst);
-    let i = part::mark(s, at[slots::LONG_BLK_DIST], listed::LONG_BLK_DIST, h.worst);
+    let f = part::mark(
+        s,
+        at[slots::DUAL_CHAN],
+        part::MUST,
+        listed::DUAL_CHAN,
+        e.worst,
+    );
+    let g = part::mark(
+        s,
+        at[slots::REPETITION],
+        part::MUST,
+        listed::REPETITION,
+        f.worst,
+    );
+    let h = part::mark(
+        s,
+        at[slots::WIDE_CARR_OFF],
+        part::MUST,
+        listed::WIDE_CARR_OFF,
+        g.worst,
+    );
+    let i = part::mark(
+        s,
+        at[slots::LONG_BLK_DIST],
+        part::MUST,
+        listed::LONG_BLK_DIST,
+        h.worst,
+    );
     let key = c.value;
     Bodied {
         worst: i.worst,
         body: Body::AttPrp(record::AttPrp {
             ep_eui: a.value.value,
-            bidi: b.value,
+            bidi: b.value.value,
             nwk_sn_key: key,
             sh_addr: d.value,
             last_packet_cnt: e.value,
-            dual_chan: f.value,
-            repetition: g.value,
-            wide_carr_off: h.value,
-            long_blk_dist: i.value,
+            dual_chan: f.value.value,
+            repetition: g.value.value,
+            wide_carr_off: h.value.value,
+            long_blk_dist: i.value.value,
         }),
     }
 }

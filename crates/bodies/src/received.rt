@@ -77,30 +77,36 @@ pub fn ul_data(s: &[u8], at: &[u16; 64], user: &mut [u8; 245], worst: u16) -> Bo
     let p = packet(s, at, worst);
     let a = part::octets(s, at[slots::USER_DATA], user, listed::USER_DATA, p.worst);
     let b = part::format(s, at[slots::FORMAT], listed::FORMAT, a.worst);
-    let c = part::mark(s, at[slots::DL_OPEN], listed::DL_OPEN, b.worst);
-    let d = part::mark(s, at[slots::RESPONSE_EXP], listed::RESPONSE_EXP, c.worst);
-    let e = part::mark(s, at[slots::DL_ACK], listed::DL_ACK, d.worst);
+    let c = part::mark(s, at[slots::DL_OPEN], part::MUST, listed::DL_OPEN, b.worst);
+    let d = part::mark(
+        s,
+        at[slots::RESPONSE_EXP],
+        part::MUST,
+        listed::RESPONSE_EXP,
+        c.worst,
+    );
+    let e = part::mark(s, at[slots::DL_ACK], part::MUST, listed::DL_ACK, d.worst);
     let f = part::unkept(s, at[slots::MODE], part::MAY, listed::MODE, e.worst);
     let g = part::table(s, at[slots::SUBPACKETS], listed::UL_DATA_SUBPACKETS, f);
     let heard = p.value;
     Bodied {
-        worst: part::graver(g, crossed(d.value, c.value)),
+        worst: part::graver(g, crossed(d.value.value, c.value.here, c.value.value)),
         body: Body::UlData(record::UlData {
             packet: heard,
             user_len: a.value,
             format: b.value,
-            dl_open: c.value,
-            response_exp: d.value,
-            dl_ack: e.value,
+            dl_open: c.value.value,
+            response_exp: d.value.value,
+            dl_ack: e.value.value,
         }),
     }
 }
 
-// responseExp true with dlOpen false is invalid, at responseExp's place.
-fn crossed(expected: bool, opened: bool) -> u16
-    ensures { λ r. ⌜ r ≡ crossedBy expected opened ⌝ }
+// responseExp true with dlOpen false is invalid, at responseExp's place, where dlOpen is valid.
+fn crossed(expected: bool, known: bool, opened: bool) -> u16
+    ensures { λ r. ⌜ r ≡ crossedBy expected known opened ⌝ }
 {
-    if expected & !opened {
+    if expected & (known & !opened) {
         return part::grade_of(part::INVALID, listed::RESPONSE_EXP);
     }
     0

@@ -1,4 +1,5 @@
 pub mod Packed
 pub mod Messages
 pub mod Sessions
+pub mod Queues
 pub mod code

@@ -3,22 +3,25 @@
 use mathlib.Core.Path.{_≡_, refl, sym, _∙_}
 use mathlib.Core.Bool.{Bool, true, not, _&&_, _||_, and-true}
 use mathlib.Core.List.{List, [], _∷_}
-use Prim.Native.Nat.{ℕ, zero, suc}
-use lib.{Dec.leb, Dec.ltb, IntN.ℤ, ListN.length, ListN.getD, ListN.drop}
+use Prim.Native.Nat.{ℕ}
+use lib.{IntN.ℤ, ListN.length, ListN.getD, ListN.drop}
 use mir.Syntax.{w8}
 use mir.Val.{Val, Fits}
 use Rattle.octets.specs.Bytes.{IsBytes}
 use Rattle.field.specs.Kind.{Kind, unsigned64, unsigned8}
-use Rattle.message.specs.Fields.{Field, headed, lists, listIn, received}
+use Rattle.message.specs.Fields.{Field, headed, lists, listIn, fieldsOf, received}
 use Rattle.saying.specs.Says.{Part, Saying, says, partIn}
-use Rattle.record.specs.declared.{Packet.Packet, Con.Con, ConRsp.ConRsp, StatusRsp.StatusRsp, Det.Det, AttPrp.AttPrp, UlData.UlData, Body.Body}
+use Rattle.record.specs.declared.{Packet.Packet, Con.Con, ConRsp.ConRsp, StatusRsp.StatusRsp, Det.Det, AttPrp.AttPrp, UlData.UlData, DlDataQue.DlDataQue, Body.Body}
 use Rattle.record.specs.declared.{Message.Message}
-use Rattle.record.specs.{Says.packetSayings, Says.bodySayings, Says.sayingsOf, Fits.firstFault, Fits.faultIn}
-use Rattle.faults.specs.code.Tests.{faultUnless, orFault, conFault, conRspFault, statusFault, packetFault, ulDataFault, bareFault, bodyFault, AtOnce}
+use Rattle.record.specs.{Says.isBare, Says.packetSayings, Says.bodySayings, Says.sayingsOf, Fits.firstFault, Fits.faultIn}
+use Rattle.record.proofs.Commands.{Command, command, bare-list}
+use Rattle.record.proofs.Commands.Command.{con, con-rsp, status-rsp, det, det-rsp, att-prp, det-prp, ul-data, dl-data-que, bare}
+use Rattle.faults.specs.code.Tests.{faultUnless, orFault, conFault, conRspFault, statusFault, packetFault, ulDataFault, dlDataQueFault, bareFault, bodyFault, AtOnce}
 use Rattle.faults.proofs.Typed as typed
 use Rattle.faults.proofs.Typed.{Typed, Signed, PacketSure, Sure}
-use Rattle.faults.proofs.Parts.{name-in, mark-in, real-in, maybe-sure, must-be, unless-in, figure-in, position-in, station-in, centre-in, four-in, sixteen-in, text-lent, bytes-lent}
+use Rattle.faults.proofs.Parts.{name-in, mark-in, real-in, maybe-sure, must-be, unless-in, figure-in, position-in, station-in, centre-in, four-in, sixteen-in, text-lent, bytes-lent, marks-in}
 use Rattle.faults.proofs.Tails.{profile-in}
+use Rattle.faults.proofs.Downlinks.{counters-in, pieces-in, prio-in}
 use Rattle.faults.proofs.Steps.{pass, look, look-on, none-told, clear}
 
 -- a part that must pass a test besides
@@ -130,25 +133,43 @@ module _ (z : ℤ) (id : Signed 0x7FFFFFFFFFFFFFFF z) (d : List ℕ) where
       (pass _ _ _ _ _ (mark-in (x .«dl_ack»))
       (clear _ _ _ tt))))))))
 
-  bare-more : (c : ℕ) → listIn lists c ≡ headed [] → faultFor z d (Body.Bare c) ≡ bareFault c
+  dl-data-que-is : IsBytes d → (x : DlDataQue) → Sure (Body.DlDataQue x) → faultFor z d (Body.DlDataQue x) ≡ dlDataQueFault x d
   unfolding faultIn partIn sayingsOf bodySayings
-  bare-more c e =
-      rw e (look _ _ _ _ _ _ (tested-in (leb 8 c && ltb c 21) _ (name-in _)) (pass _ _ _ _ _ id (clear _ _ _ tt)))
+  dl-data-que-is b x s =
+      pass _ _ _ _ _ (name-in _)
+      (pass _ _ _ _ _ id
+      (pass _ _ _ _ _ (s .0)
+      (pass _ _ _ _ _ (s .1)
+      (pass _ _ _ _ _ (mark-in (x .«cnt_depend»))
+      (look _ _ _ _ _ _ (counters-in _ x d b)
+      (look _ _ _ _ _ _ (pieces-in (x .entries) d b)
+      (pass _ _ _ _ _ (unless-in _ unsigned8 (x .format) (s .2))
+      (look _ _ _ _ _ _ (prio-in _ (x .prio))
+      (look _ _ _ _ _ _ (marks-in _ (x .«response_exp»))
+      (look _ _ _ _ _ _ (marks-in _ (x .«response_prio»))
+      (look _ _ _ _ _ _ (marks-in _ (x .«dl_wind_req»))
+      (look _ _ _ _ _ _ (marks-in _ (x .«exp_only»))
+      (clear _ _ _ tt)))))))))))))
 
-  -- the first eight commands have lists of their own, each with `command` first; the others have nothing more
-  bare-is : (c : ℕ) → faultFor z d (Body.Bare c) ≡ bareFault c
+  bare-more : (c : ℕ) → fieldsOf c ≡ headed [] → faultFor z d (Body.Bare c) ≡ bareFault c
+  unfolding faultIn partIn sayingsOf bodySayings
+  bare-more c e = rw e (look _ _ _ _ _ _ (tested-in (isBare c) _ (name-in _)) (pass _ _ _ _ _ id (clear _ _ _ tt)))
+
+  -- nine commands have lists of their own, each with `command` first; the others have nothing more
+  bare-is : {c : ℕ} → Command c → faultFor z d (Body.Bare c) ≡ bareFault c
   unfolding faultIn firstFault faultUnless lists listIn partIn sayingsOf bodySayings
-  bare-is zero = refl
-  bare-is (suc zero) = refl
-  bare-is (suc (suc zero)) = refl
-  bare-is (suc (suc (suc zero))) = refl
-  bare-is (suc (suc (suc (suc zero)))) = refl
-  bare-is (suc (suc (suc (suc (suc zero))))) = refl
-  bare-is (suc (suc (suc (suc (suc (suc zero)))))) = refl
-  bare-is (suc (suc (suc (suc (suc (suc (suc zero))))))) = refl
-  bare-is (suc (suc (suc (suc (suc (suc (suc (suc n)))))))) = bare-more (suc (suc (suc (suc (suc (suc (suc (suc n)))))))) refl
+  bare-is con = refl
+  bare-is con-rsp = refl
+  bare-is status-rsp = refl
+  bare-is det = refl
+  bare-is det-rsp = refl
+  bare-is att-prp = refl
+  bare-is det-prp = refl
+  bare-is ul-data = refl
+  bare-is dl-data-que = refl
+  bare-is (bare {c} past other) = bare-more c (bare-list past other)
 
-  body-is : IsBytes d → (b : Body) → Sure b → faultFor z d b ≡ bodyFault b (length d)
+  body-is : IsBytes d → (b : Body) → Sure b → faultFor z d b ≡ bodyFault b d
   unfolding bodyFault
   body-is bytes (Body.Con x) s = con-is x s
   body-is bytes (Body.ConRsp x) s = con-rsp-is x s
@@ -158,59 +179,64 @@ module _ (z : ℤ) (id : Signed 0x7FFFFFFFFFFFFFFF z) (d : List ℕ) where
   body-is bytes (Body.AttPrp x) s = att-prp-is x s
   body-is bytes (Body.DetPrp eui) s = det-prp-is eui s
   body-is bytes (Body.UlData x) s = ul-data-is bytes x s
-  body-is bytes (Body.Bare c) s = bare-is c
+  body-is bytes (Body.DlDataQue x) s = dl-data-que-is bytes x s
+  body-is bytes (Body.Bare c) s = bare-is (command c)
 
 -- each in the shape of a need of `fault`
 module _ (m : Message) (vs : List Val) (g : Typed m vs) (d : List ℕ) (bytes : (k : ℕ) → Fits w8 (getD d k 0)) (r : ℕ) where
-  pub by-fields : r ≡ bodyFault (m .body) (length d) → r ≡ faultIn m d
+  pub by-fields : r ≡ bodyFault (m .body) d → r ≡ faultIn m d
   by-fields e = e ∙ sym (body-is (m .«op_id») (typed.op-id m vs g) d (λ k. bytes k .fits) (m .body) (typed.body m vs g))
 
   pub by-name : AtOnce (m .body) r → (r ≡ 255 → ⊥) → r ≡ faultIn m d
-  by-name a n = by-fields (a .told (length d) n)
+  by-name a n = by-fields (a .told d n)
 
 pub ruleset whole = (by-fields, by-name)
 
 -- in the shape of a need of `at_once`
 pub of-name : (b : Body) (c r : ℕ) → b ≡ Body.Bare c → r ≡ bareFault c → AtOnce b r
 unfolding bodyFault
-of-name b c r e f = record { told = λ lent n. rw e f }
+of-name b c r e f = record { told = λ d n. rw e f }
 
 -- each in the shape of a need of `body_fault`
-module _ (b : Body) (lent r : ℕ) where
-  pub of-con : (x : Con) → b ≡ Body.Con x → r ≡ conFault x → r ≡ bodyFault b lent
+module _ (b : Body) (d : List ℕ) (r : ℕ) where
+  pub of-con : (x : Con) → b ≡ Body.Con x → r ≡ conFault x → r ≡ bodyFault b d
   unfolding bodyFault
   of-con x e f = rw e f
 
-  pub of-con-rsp : (x : ConRsp) → b ≡ Body.ConRsp x → r ≡ conRspFault x → r ≡ bodyFault b lent
+  pub of-con-rsp : (x : ConRsp) → b ≡ Body.ConRsp x → r ≡ conRspFault x → r ≡ bodyFault b d
   unfolding bodyFault
   of-con-rsp x e f = rw e f
 
-  pub of-status-rsp : (x : StatusRsp) → b ≡ Body.StatusRsp x → r ≡ statusFault x lent → r ≡ bodyFault b lent
+  pub of-status-rsp : (x : StatusRsp) → b ≡ Body.StatusRsp x → r ≡ statusFault x (length d) → r ≡ bodyFault b d
   unfolding bodyFault
   of-status-rsp x e f = rw e f
 
-  pub of-det : (x : Det) → b ≡ Body.Det x → r ≡ packetFault (x .packet) → r ≡ bodyFault b lent
+  pub of-det : (x : Det) → b ≡ Body.Det x → r ≡ packetFault (x .packet) → r ≡ bodyFault b d
   unfolding bodyFault
   of-det x e f = rw e f
 
-  pub of-det-rsp : (sign : ℕ) → b ≡ Body.DetRsp sign → r ≡ 0 → r ≡ bodyFault b lent
+  pub of-det-rsp : (sign : ℕ) → b ≡ Body.DetRsp sign → r ≡ 0 → r ≡ bodyFault b d
   unfolding bodyFault
   of-det-rsp sign e f = rw e f
 
-  pub of-att-prp : (x : AttPrp) → b ≡ Body.AttPrp x → r ≡ 0 → r ≡ bodyFault b lent
+  pub of-att-prp : (x : AttPrp) → b ≡ Body.AttPrp x → r ≡ 0 → r ≡ bodyFault b d
   unfolding bodyFault
   of-att-prp x e f = rw e f
 
-  pub of-det-prp : (eui : ℕ) → b ≡ Body.DetPrp eui → r ≡ 0 → r ≡ bodyFault b lent
+  pub of-det-prp : (eui : ℕ) → b ≡ Body.DetPrp eui → r ≡ 0 → r ≡ bodyFault b d
   unfolding bodyFault
   of-det-prp eui e f = rw e f
 
-  pub of-ul-data : (x : UlData) → b ≡ Body.UlData x → r ≡ ulDataFault x lent → r ≡ bodyFault b lent
+  pub of-ul-data : (x : UlData) → b ≡ Body.UlData x → r ≡ ulDataFault x (length d) → r ≡ bodyFault b d
   unfolding bodyFault
   of-ul-data x e f = rw e f
 
-  pub of-bare : (c : ℕ) → b ≡ Body.Bare c → r ≡ bareFault c → r ≡ bodyFault b lent
+  pub of-dl-data-que : (x : DlDataQue) → b ≡ Body.DlDataQue x → r ≡ dlDataQueFault x d → r ≡ bodyFault b d
+  unfolding bodyFault
+  of-dl-data-que x e f = rw e f
+
+  pub of-bare : (c : ℕ) → b ≡ Body.Bare c → r ≡ bareFault c → r ≡ bodyFault b d
   unfolding bodyFault
   of-bare c e f = rw e f
 
-pub ruleset bodies = (of-con, of-con-rsp, of-status-rsp, of-det, of-det-rsp, of-att-prp, of-det-prp, of-ul-data, of-bare)
+pub ruleset bodies = (of-con, of-con-rsp, of-status-rsp, of-det, of-det-rsp, of-att-prp, of-det-prp, of-ul-data, of-dl-data-que, of-bare)

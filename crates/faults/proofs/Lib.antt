@@ -4,6 +4,8 @@ pub mod Chain
 pub mod Typed
 pub mod Parts
 pub mod Tails
+pub mod Lengths
+pub mod Downlinks
 pub mod Steps
 pub mod Bodies
 pub mod Longer

@@ -1,20 +1,25 @@
--- Of the lent bytes only their count is looked at: a record without a fault has none with more bytes lent. Assumes nothing.
+-- A record without a fault has none with more bytes lent behind those that are: no part of it looks at them. Assumes nothing.
 use mathlib.Core.Path.{_≡_, refl, sym, _∙_}
 use mathlib.Core.Bool.{Bool, true, false, _&&_, and-true}
-use mathlib.Core.List.{List, [], _∷_}
-use Prim.Native.Nat.{ℕ, suc, _≤_}
+use mathlib.Core.List.{List, [], _∷_, _++_}
+use Prim.Native.Nat.{ℕ, suc, _+_, _^_, _≤_}
 use native.Mathlib.Omega.{arith}
-use lib.{Dec.T, Dec.leb, Dec.leb→le, ListN.length, ListN.take, Pow.areBytes, Seq.length-take-le}
+use lib.{Dec.T, Dec.leb, Dec.leb→le, Ieee.Fits.and-i, Pow.areBytes}
+use lib.ListN.{length, take, drop, length-append, length-drop}
+use lib.Seq.{length-take-le, take-append-le, drop-append-le}
 use borrow.Author.Tests.{le-leb}
 use Rattle.octets.specs.{Choice.either, Bytes.IsBytes}
+use Rattle.octets.specs.Pieces.{cutBy, sumOf, countersLent, lengthsLent, piecesLent, areLent, areBelow}
 use Rattle.octets.proofs.Ranges.{is-true, both-left, both-right}
+use Rattle.forms.proofs.Downlinks.{counters-length}
 use Rattle.names.specs.Names.{sameBytes}
 use Rattle.field.specs.Kind.{Kind, Value}
 use Rattle.message.specs.Fields.{Field, fieldsOf}
-use Rattle.saying.specs.{Says.Part, Says.Saying, Says.partIn, Fits.isSized, Fits.within, Fits.fieldFits}
+use Rattle.saying.specs.{Says.Part, Says.Saying, Says.countsIf, Says.strings, Says.partIn, Fits.isSized, Fits.within, Fits.fieldFits}
 use Rattle.record.specs.declared.{Body.Body, Message.Message}
-use Rattle.record.specs.{Record.commandIn, Says.lent, Says.bodySayings, Says.sayingsOf, Fits.firstFault, Fits.faultIn}
-use Rattle.faults.proofs.Parts.{take-bytes}
+use Rattle.record.specs.{Record.commandIn, Says.tested, Says.lent, Says.isCounted, Says.bodySayings, Says.sayingsOf, Fits.firstFault, Fits.faultIn}
+use Rattle.record.proofs.Downlinks.{lent-few, lent-long}
+use Rattle.faults.proofs.{Parts.take-bytes, Downlinks.counters-below}
 
 -- q fits every field that p fits
 abbrev Better : Part → Part → Type 0
@@ -51,26 +56,61 @@ in-rows (more u p q {rs} {ss} b x) k = one-row (sameBytes u k) p q (partIn rs k)
 -- bytes in place of as many others
 in-place : (k : Kind) (a b : List ℕ) → length a ≡ length b → areBytes b ≡ true → T (within k (Value.string a)) → T (within k (Value.string b))
 unfolding within
-in-place (Kind.wholes lo hi) a b e y t = absurd t
-in-place Kind.reals a b e y t = absurd t
-in-place Kind.flags a b e y t = absurd t
-in-place Kind.positions a b e y t = absurd t
 in-place (Kind.arrays lo hi) a b e y t = rw (← e, y, and-true) (both-left (isSized lo hi a) (areBytes a) t)
 in-place (Kind.texts lo hi) a b e y t = rw (← e) t
-in-place Kind.versions a b e y t = absurd t
 in-place Kind.words a b e y t = tt
-in-place Kind.maps a b e y t = absurd t
 
-module _ (d e : List ℕ) (more-lent : length d ≤ length e) (bytes : IsBytes e) where
-  lent-better : (n : ℕ) → Better (lent n d) (lent n e)
-  lent-better n f t =
-      let few = leb→le n (length d) (both-left (leb n (length d)) true (both-left (leb n (length d) && true) (within (f .kind) (Value.string (take n d))) t)) in
-      let enough : n ≤ length e = omega arith in
-      rw (le-leb n (length e) enough)
-      (in-place (f .kind) (take n d) (take n e) (length-take-le n d few ∙ sym (length-take-le n e enough)) (take-bytes n e bytes)
-      (both-right (leb n (length d) && true) (within (f .kind) (Value.string (take n d))) t))
+-- counters in place of as many others
+counters-place : (k : Kind) (a b : List ℕ) → length a ≡ length b → areBelow (2 ^ 32) b ≡ true → T (within k (Value.counts a)) → T (within k (Value.counts b))
+unfolding within
+counters-place (Kind.counters many) a b e y t = rw (← e, y, and-true) (both-left (leb (length a) many) (areBelow (2 ^ 32) a) t)
 
-  body-rows : (b : Body) → Rows (bodySayings b d) (bodySayings b e)
+cut-stays : (ns d t : List ℕ) → sumOf ns ≤ length d → cutBy ns (d ++ t) ≡ cutBy ns d
+unfolding cutBy sumOf
+cut-stays [] d t h = refl
+cut-stays (n ∷ ns) d t h =
+    rw (take-append-le n d t (omega arith), drop-append-le n d t (omega arith), cut-stays ns (drop n d) t (omega (arith, length-drop n d)))
+
+-- n data entries that are lent are the same with more bytes behind them
+module _ (n : ℕ) (d t : List ℕ) (lent : T (areLent n d)) where
+  long : 80 + sumOf (lengthsLent n d) ≤ length d
+  long = lent-long n d lent
+
+  lengths-stay : lengthsLent n (d ++ t) ≡ lengthsLent n d
+  lengths-stay = rw (drop-append-le 64 d t (omega (arith, long)), take-append-le n (drop 64 d) t (omega (arith, length-drop 64 d, lent-few n d lent, long)))
+
+  pieces-stay : piecesLent n (d ++ t) ≡ piecesLent n d
+  pieces-stay = rw (lengths-stay, drop-append-le 80 d t (omega (arith, long))) (cut-stays (lengthsLent n d) (drop 80 d) t (omega (arith, length-drop 80 d, long)))
+
+  still-lent : T (areLent n (d ++ t))
+  still-lent =
+      rw (lengths-stay, le-leb n 16 (lent-few n d lent), length-append d t, le-leb (80 + sumOf (lengthsLent n d)) (length d + length t) (omega (arith, long))) tt
+
+-- with bytes t behind those that are lent
+module _ (d t : List ℕ) (bytes : IsBytes (d ++ t)) where
+  lent-better : (n : ℕ) → Better (lent n d) (lent n (d ++ t))
+  lent-better n f s =
+      let few = leb→le n (length d) (both-left (leb n (length d)) true (both-left (leb n (length d) && true) (within (f .kind) (Value.string (take n d))) s)) in
+      let enough : n ≤ length (d ++ t) = omega (arith, length-append d t) in
+      rw (le-leb n (length (d ++ t)) enough)
+      (in-place (f .kind) (take n d) (take n (d ++ t)) (length-take-le n d few ∙ sym (length-take-le n (d ++ t) enough)) (take-bytes n (d ++ t) bytes)
+      (both-right (leb n (length d) && true) (within (f .kind) (Value.string (take n d))) s))
+
+  counters-better : (b h : Bool) (n : ℕ) → Better (tested b (countsIf h (countersLent n d))) (tested b (countsIf h (countersLent n (d ++ t))))
+  counters-better b false n f s = s
+  counters-better b true n f s =
+      let clean = b && true in
+      and-i clean (within (f .kind) (Value.counts (countersLent n (d ++ t)))) (both-left clean (within (f .kind) (Value.counts (countersLent n d))) s)
+      (counters-place (f .kind) (countersLent n d) (countersLent n (d ++ t)) (counters-length d n 0 ∙ sym (counters-length (d ++ t) n 0)) (counters-below (d ++ t) bytes n 0)
+      (both-right clean (within (f .kind) (Value.counts (countersLent n d))) s))
+
+  pieces-better : (n : ℕ) → Better (tested (areLent n d) (strings (piecesLent n d))) (tested (areLent n (d ++ t)) (strings (piecesLent n (d ++ t))))
+  pieces-better n f s =
+      let there = both-left (areLent n d) true (both-left (areLent n d && true) (within (f .kind) (Value.strings (piecesLent n d))) s) in
+      rw (pieces-stay n d t there, ← is-true (areLent n (d ++ t)) (still-lent n d t there))
+      (both-right (areLent n d && true) (within (f .kind) (Value.strings (piecesLent n d))) s)
+
+  body-rows : (b : Body) → Rows (bodySayings b d) (bodySayings b (d ++ t))
   unfolding bodySayings
   body-rows (Body.Con x) = same _
   body-rows (Body.ConRsp x) = same _
@@ -81,10 +121,12 @@ module _ (d e : List ℕ) (more-lent : length d ≤ length e) (bytes : IsBytes e
   body-rows (Body.DetPrp eui) = same _
   body-rows (Body.UlData x) =
       kept _ (kept _ (kept _ (kept _ (kept _ (kept _ (kept _ (kept _ (more _ _ _ (lent-better (x .«user_len»)) (same _)))))))))
+  body-rows (Body.DlDataQue x) =
+      kept _ (kept _ (kept _ (more _ _ _ (counters-better (isCounted x) (x .«cnt_depend») (x .entries)) (more _ _ _ (pieces-better (x .entries)) (same _)))))
   body-rows (Body.Bare c) = same _
 
-  pub longer : (m : Message) → faultIn m d ≡ 0 → faultIn m e ≡ 0
+  pub longer : (m : Message) → faultIn m d ≡ 0 → faultIn m (d ++ t) ≡ 0
   unfolding faultIn sayingsOf
   longer m =
-      no-fault 0 (fieldsOf (commandIn (m .body))) (partIn (sayingsOf m d)) (partIn (sayingsOf m e))
+      no-fault 0 (fieldsOf (commandIn (m .body))) (partIn (sayingsOf m d)) (partIn (sayingsOf m (d ++ t)))
       (in-rows (kept _ (kept _ (body-rows (m .body)))))

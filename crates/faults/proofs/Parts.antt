@@ -13,12 +13,12 @@ use Rattle.octets.proofs.Digits.{length-big}
 use Rattle.octets.proofs.Ranges.{is-true, true-is, both-left, both-right}
 use Rattle.field.specs.Kind.{Kind, Value, stationId, centreId}
 use Rattle.message.specs.Fields.{Field}
-use Rattle.message.specs.declared.{MaybeId.MaybeId, MaybePosition.MaybePosition}
-use Rattle.saying.specs.Says.{isZero, noBits, noPosition, positionValue, saidIf, realIf, idIf, positionIf, unlessZero}
+use Rattle.message.specs.declared.{MaybeId.MaybeId, MaybeMark.MaybeMark, MaybePosition.MaybePosition}
+use Rattle.saying.specs.Says.{isZero, noBits, noPosition, positionValue, saidIf, realIf, idIf, markIf, positionIf, unlessZero}
 use Rattle.saying.specs.Fits.{within, isReal, fieldFits}
 use Rattle.record.specs.declared.Sixteen.{Sixteen}
 use Rattle.record.specs.Says.{sixteenBytes}
-use Rattle.faults.specs.code.Tests.{realFits, positionFits, stationIdFits, centreIdFits, lentFits}
+use Rattle.faults.specs.code.Tests.{realFits, markFits, positionFits, stationIdFits, centreIdFits, lentFits}
 
 pub name-in : (d : List ℕ) → within Kind.words (Value.string d) ≡ true
 unfolding within
@@ -56,6 +56,9 @@ pub unless-in : (k : List ℕ) (kind : Kind) (n : ℕ) → within kind (Value.nu
 unless-in k kind n e = maybe-sure k kind (not (eqb n 0)) (Value.number (pos n)) (eqb n 0) e ∙ not-or-self (eqb n 0)
 
 module _ (k : List ℕ) where
+  pub marks-in : (w : MaybeMark) → fieldFits (record { key = k; must = false; kind = Kind.flags }) (markIf w) ≡ markFits w
+  marks-in w = maybe-sure k Kind.flags (w .here) (Value.mark (w .value)) (not (w .value)) (mark-in (w .value))
+
   pub figure-in : (here : Bool) (x : Float) → fieldFits (record { key = k; must = false; kind = Kind.reals }) (realIf here x) ≡ realFits here x
   unfolding within realFits
   figure-in here x = maybe-in k Kind.reals here (Value.figure x) (noBits x)

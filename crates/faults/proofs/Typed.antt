@@ -67,6 +67,7 @@ Sure (Body.DetRsp sign) = Unit {0}
 Sure (Body.AttPrp x) = Whole word64 (x .«ep_eui») × Whole 0xFFFF (x .«sh_addr») × Whole 0xFFFFFFFF (x .«last_packet_cnt»)
 Sure (Body.DetPrp eui) = Whole word64 eui
 Sure (Body.UlData x) = PacketSure (x .packet) × Whole 0xFF (x .format)
+Sure (Body.DlDataQue x) = Whole word64 (x .«ep_eui») × Whole word64 (x .«que_id») × Whole 0xFF (x .format)
 Sure (Body.Bare c) = Unit {0}
 
 of-version : (v : MaybeVersion) (vs : List Val) → Is (row the-version.the-type) v vs → Release v
@@ -99,6 +100,9 @@ sure (Body.DetPrp eui) vs g = whole word64 eui (g .1 .1 .1 .1 .0 .1)
 sure (Body.UlData x) vs g =
     let f = g .1 .1 .1 .1 .0 .1 .1 in
     (of-packet (x .packet) _ (f .0), whole 0xFF (x .format) (f .1 .1 .0 .1))
+sure (Body.DlDataQue x) vs g =
+    let f = g .1 .1 .1 .1 .0 .1 .1 in
+    (whole word64 (x .«ep_eui») (f .0 .1), whole word64 (x .«que_id») (f .1 .0 .1), whole 0xFF (x .format) (f .1 .1 .1 .1 .0 .1))
 sure (Body.Bare c) vs g = tt
 
 module _ (m : Message) (vs : List Val) (g : Typed m vs) where

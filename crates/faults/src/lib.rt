@@ -1,9 +1,12 @@
 // Which of a record's fields may not be written: document 01's 15, with the field's number.
+mod downlink;
 mod part;
 
 use message::listed;
 use names::numbers::COMMANDS;
 use names::numbers::CON_CMP;
+use names::numbers::DL_DATA_QUE;
+pub use part::no_bits;
 use record::Body;
 ghost use mathlib.Core.Path.{_≡_};
 ghost use Rattle.record.specs.Fits.{faultIn};
@@ -32,7 +35,7 @@ pub fn fault(m: record::Message, d: &[u8]) -> u8
     if f != ASK_FIELDS {
         return f;
     }
-    body_fault(b, d.len())
+    body_fault(b, d)
 }
 
 // Most commands that are written are bare. They are told of first and apart, so that nothing else of the record is read.
@@ -48,18 +51,19 @@ fn at_once(b: Body) -> u8
         Body::AttPrp(_) => ASK_FIELDS,
         Body::DetPrp(_) => ASK_FIELDS,
         Body::UlData(_) => ASK_FIELDS,
+        Body::DlDataQue(_) => ASK_FIELDS,
         Body::Bare(c) => bare_fault(c),
     }
 }
 
-// Of a body beside which so many bytes are lent.
-fn body_fault(b: Body, lent: usize) -> u8
-    ensures { λ r. ⌜ r ≡ bodyFault b lent ⌝ }
+// Of a body with the bytes d that are lent beside it.
+fn body_fault(b: Body, d: &[u8]) -> u8
+    ensures { λ r. ⌜ r ≡ bodyFault b (now (d .entry)) ⌝ }
 {
     match b {
         Body::Con(x) => con_fault(x),
         Body::ConRsp(x) => con_rsp_fault(x),
-        Body::StatusRsp(x) => status_fault(x, lent),
+        Body::StatusRsp(x) => status_fault(x, d.len()),
         Body::Det(x) => {
             let p = x.packet;
             packet_fault(p)
@@ -67,7 +71,8 @@ fn body_fault(b: Body, lent: usize) -> u8
         Body::DetRsp(_) => NONE,
         Body::AttPrp(_) => NONE,
         Body::DetPrp(_) => NONE,
-        Body::UlData(x) => ul_data_fault(x, lent),
+        Body::UlData(x) => ul_data_fault(x, d.len()),
+        Body::DlDataQue(x) => downlink::dl_data_que_fault(x, d),
         Body::Bare(c) => bare_fault(c),
     }
 }
@@ -183,11 +188,11 @@ fn ul_data_fault(x: record::UlData, lent: usize) -> u8
     NONE
 }
 
-// None of the eight commands that have more is bare.
+// None of the nine commands that have more is bare.
 fn bare_fault(c: u8) -> u8
     ensures { λ r. ⌜ r ≡ bareFault c ⌝ }
 {
-    let bare = (FIRST_BARE <= c) & (c < COMMANDS);
+    let bare = (FIRST_BARE <= c) & ((c < COMMANDS) & (c != DL_DATA_QUE));
     if !bare {
         return listed::COMMAND + 1;
     }

@@ -1,9 +1,10 @@
 // Whether a part of a record fits: reals are finite, numbers have their sign, and what is absent is zero.
 use field::Position;
 use message::MaybeId;
+use number::narrow::fits_single;
 ghost use mathlib.Core.Path.{_≡_};
 ghost use Rattle.saying.specs.{Says.noBits, Says.noPosition, Fits.isReal, Fits.isPosition};
-ghost use Rattle.faults.specs.code.Tests.{realFits, wordFits, stationIdFits, centreIdFits, versionFits, positionFits, tailFits, lentFits};
+ghost use Rattle.faults.specs.code.Tests.{isSingle, realFits, wordFits, markFits, stationIdFits, centreIdFits, versionFits, positionFits, tailFits, lentFits};
 
 // Of a real's 64 bits: the sign's weight, the exponent's, and the exponent of one that is not finite.
 const SIGN: u64 = 0x8000_0000_0000_0000;
@@ -31,8 +32,18 @@ pub fn is_real(x: f64) -> bool
     f64::to_bits(x) % SIGN / EXPONENT != NOT_FINITE
 }
 
+// A finite real that single precision holds exactly.
+pub fn is_single(x: f64) -> bool
+    ensures { λ r. ⌜ r ≡ isSingle x ⌝ }
+{
+    if x != x {
+        return false;
+    }
+    fits_single(f64::to_bits(x))
+}
+
 // Zero, and not minus zero.
-fn no_bits(x: f64) -> bool
+pub fn no_bits(x: f64) -> bool
     ensures { λ r. ⌜ r ≡ noBits x ⌝ }
 {
     if x != x {
@@ -55,6 +66,12 @@ pub fn maybe_word(x: message::MaybeWord) -> bool
     ensures { λ r. ⌜ r ≡ wordFits x ⌝ }
 {
     x.here | (x.value == 0)
+}
+
+pub fn maybe_mark(x: message::MaybeMark) -> bool
+    ensures { λ r. ⌜ r ≡ markFits x ⌝ }
+{
+    x.here | !x.value
 }
 
 // From zero on.

@@ -1,4 +1,4 @@
--- Arrays of bytes: what is said of the parts that are left is what is said of all. Each law in the shape of a need of the code.
+-- Arrays of bytes: where the parts of an array stand, and the bytes that they are. Each law in the shape of a need of the code.
 -- Assumes nothing.
 use mathlib.Core.Path.{_≡_, refl, sym, ap, _∙_}
 use mathlib.Core.{Bool.Bool, Bool.true, Bool.false, List.List, List.[], List._∷_, Option.Option, Option.some, Option.none}
@@ -6,24 +6,21 @@ use Prim.Native.Nat.{ℕ, zero, suc, _+_, _-_, _≤_, _<_}
 use native.Mathlib.Nat.{zero-add}
 use native.Mathlib.Omega.{arith}
 use lib.ListN.{length, getD}
-use Rattle.octets.specs.{Choice.either, Number.bigAt, Number.isThere, Number.ifThere}
-use Rattle.octets.proofs.Reading.{inside}
+use Rattle.octets.specs.{Number.bigAt, Number.isThere, Number.ifThere}
+use Rattle.octets.proofs.{Ranges.true-false, Reading.inside}
 use Rattle.element.specs.declared.Shape.{Shape, the-variants.Never, the-variants.Plain, the-variants.Text, the-variants.Array, the-variants.Map}
 use Rattle.element.specs.declared.Span.the-variants.{Holds}
-use Rattle.element.specs.{Lead.Class, Lead.classOf, Form.spanOf, Meaning.Elements, Meaning.leafOf, code.At.leafAt}
+use Rattle.element.specs.{Lead.Class, Lead.classOf, Form.contentOf, Form.spanOf, Meaning.Elements, Meaning.leafOf, code.At.leafAt}
 use Rattle.number.specs.Number.{numberOf}
 use Rattle.walk.proofs.{Leads.row, Leads.says-fixarray, Leads.says-array, Elements.length-fits}
-use Rattle.field.specs.declared.{Judged.Judged, Opened.Opened, Extent.Extent}
-use Rattle.field.specs.declared.Octet.{Octet, the-variants.Byte, the-variants.Unfit}
-use Rattle.field.specs.{Kind.Kind, Kind.Value, code.At.endOf, code.At.leavesFrom, code.At.shallowAt}
-use Rattle.field.specs.Judge.{onSome, partsOf, octetIn, octetsIn, stringSized, judge}
-use Rattle.field.specs.code.Read.{badly, well, tellOf, readAt, sizedOf}
+use Rattle.field.specs.declared.{Opened.Opened, Extent.Extent}
+use Rattle.field.specs.{Kind.Value, code.At.endOf, code.At.leavesFrom, code.At.shallowAt, code.Item.naturalsFrom}
+use Rattle.field.specs.Judge.{onSome, partsOf, naturalIn, naturalsIn}
 use Rattle.field.specs.code.Extent.{openedAt, isArray, nowhere, partsBy, Lists}
-use Rattle.field.specs.code.Item.{octetBy, octetAt, isSome, octetsFrom}
-use Rattle.field.proofs.{Shallow.by-shallow, Shallow.shallow-past, Shallow.leaf-all, Heads.open-is, Heads.span-bare}
-use Rattle.field.proofs.{Views.seen, Views.seen-there, Texts.sized-many, Texts.sized-in, Texts.sized-told}
+use Rattle.field.proofs.{Shallow.by-shallow, Shallow.shallow-past, Shallow.leaf-all, Heads.open-is, Heads.opened-span, Heads.span-bare}
+use Rattle.field.proofs.{Views.seen, Views.seen-there}
 
-no-parts : (c : Class) (b : ℕ) (d : List ℕ) → partsOf (leafOf c b d) ≡ none
+pub no-parts : (c : Class) (b : ℕ) (d : List ℕ) → partsOf (leafOf c b d) ≡ none
 no-parts Class.small b d = refl
 no-parts Class.map b d = refl
 no-parts Class.array b d = refl
@@ -53,22 +50,43 @@ module _ (s : List ℕ) (at : ℕ) (o : Opened) (e : o ≡ openedAt s at) (w : o
       go Array = refl
       go Map = refl
 
+  array-span : t ≡ true → spanOf s at ≡ Holds (o .from) (o .size) false
+  array-span u = opened-span s at o e ∙ go (o .shape) (sym q ∙ u)
+    where
+      go : (h : Shape) → isArray h ≡ true → contentOf h (length s) (o .from) (o .size) ≡ Holds (o .from) (o .size) false
+      go Never i = true-false (sym i)
+      go Plain i = true-false (sym i)
+      go Text i = true-false (sym i)
+      go Array i = refl
+      go Map i = true-false (sym i)
+
   pub array-there : t ≡ true → Lists s at (record { there = true; from = o .from; size = o .size })
-  array-there u = record { is = by-array ∙ ap (λ (b : Bool). partsBy b (leavesFrom s (o .size) (o .from))) u; within = w }
+  array-there u = record {
+    is = by-array ∙ ap (λ (b : Bool). partsBy b (leavesFrom s (o .size) (o .from))) u;
+    span = λ _. array-span u;
+    within = w;
+  }
 
   pub array-not : (r : Extent) → t ≡ false → r ≡ nowhere → Lists s at r
   array-not r u p =
-      rw p (record { is = by-array ∙ ap (λ (b : Bool). partsBy b (leavesFrom s (o .size) (o .from))) u; within = omega arith })
+      rw p
+      (record {
+        is = by-array ∙ ap (λ (b : Bool). partsBy b (leavesFrom s (o .size) (o .from))) u;
+        span = λ z. true-false (sym z);
+        within = omega arith;
+      })
 
 -- a short one, by its lead byte alone
 module _ (s : List ℕ) (at : ℕ) where
   pub array-past : (r : Extent) → r ≡ nowhere → length s ≤ at → Lists s at r
-  array-past r e h = rw e (record { is = ap partsOf (shallow-past s at h); within = omega arith })
+  array-past r e h = rw e (record { is = ap partsOf (shallow-past s at h); span = λ z. true-false (sym z); within = omega arith })
 
   pub array-fix : at < length s → 0x90 ≤ getD s at 0 → getD s at 0 < 0xA0 → Lists s at (record { there = true; from = at + 1; size = getD s at 0 - 0x90 })
   array-fix there g h =
+      let span = span-bare s at Array (getD s at 0 - 0x90) there (says-fixarray (getD s at 0) g h .is) in
       record {
-        is = ap partsOf (by-shallow s at (Holds (at + 1) (getD s at 0 - 0x90) false) there (span-bare s at Array (getD s at 0 - 0x90) there (says-fixarray (getD s at 0) g h .is)));
+        is = ap partsOf (by-shallow s at (Holds (at + 1) (getD s at 0 - 0x90) false) there span);
+        span = λ _. span;
         within = omega arith;
       }
 
@@ -82,100 +100,22 @@ array-two s at n t there b e u q =
 
 pub ruleset lists = (array-there, array-not, array-past, array-fix, array-two, length-fits, arith)
 
--- the bytes of the parts, with one part more in front
-abbrev pub more : Octet → (ℕ → Option (List ℕ)) → Option (List ℕ)
-more Unfit f = none
-more (Byte v next) f = onSome (f next) (λ bs. some (v ∷ bs))
+-- as many values as parts
+pub joined-length : {A : Type 0} (k : ℕ) (l : List A) (o : Option A) (m : Option (List A)) → ((xs : List A) → m ≡ some xs → length xs ≡ k) → onSome o (λ x. onSome m (λ xs. some (x ∷ xs))) ≡ some l → length l ≡ suc k
+joined-length k l none m f e = absurd (let z : _≡_ {A = ℕ} 0 1 = cc in omega arith)
+joined-length k l (some x) none f e = absurd (let z : _≡_ {A = ℕ} 0 1 = cc in omega arith)
+joined-length k l (some x) (some xs) f e = let z : x ∷ xs ≡ l = cc in rw (← z) (ap suc (f xs refl))
 
-pub from-more : (s : List ℕ) (j q : ℕ) → octetsFrom s (suc j) q ≡ more (octetAt s q) (octetsFrom s j)
-unfolding octetsFrom octetsIn leavesFrom octetAt
-from-more s j q = go (octetIn (numberOf (leafAt s q)))
-  where
-    go : (o : Option ℕ) → onSome o (λ b. onSome (octetsIn (leavesFrom s j (endOf q (spanOf s q)))) (λ bs. some (b ∷ bs))) ≡ more (octetBy o (endOf q (spanOf s q))) (λ n. octetsIn (leavesFrom s j n))
-    go none = refl
-    go (some b) = refl
-
-is-more : (v : ℕ) (o : Option (List ℕ)) → isSome (onSome o (λ bs. some (v ∷ bs))) ≡ isSome o
-is-more v none = refl
-is-more v (some bs) = refl
-
-module _ (s : List ℕ) (k q : ℕ) (x : Octet) (p : 0 < k) (e : x ≡ octetAt s q) where
-  pub step : octetsFrom s k q ≡ more x (octetsFrom s (k - 1))
-  step =
-      let j : k ≡ suc (k - 1) = omega arith in
-      ap (λ (n : ℕ). octetsFrom s n q) j ∙ from-more s (k - 1) q ∙ ap (λ (y : Octet). more y (octetsFrom s (k - 1))) (sym e)
-
-  pub all-more : (v next : ℕ) (r : Bool) → x ≡ Byte v next → isSome (octetsFrom s k q) ≡ r → isSome (octetsFrom s (k - 1) next) ≡ r
-  all-more v next r y g =
-      sym (is-more v (octetsFrom s (k - 1) next))
-      ∙ sym (ap isSome (step ∙ ap (λ (z : Octet). more z (octetsFrom s (k - 1))) y)) ∙ g
-
-  pub all-none : (r : Bool) → x ≡ Unfit → isSome (octetsFrom s k q) ≡ r → false ≡ r
-  all-none r y g = sym (ap isSome (step ∙ ap (λ (z : Octet). more z (octetsFrom s (k - 1))) y)) ∙ g
-
-pub all-done : (s : List ℕ) (k q : ℕ) (r : Bool) → k ≤ 0 → isSome (octetsFrom s k q) ≡ r → true ≡ r
-unfolding octetsFrom octetsIn leavesFrom
-all-done s k q r h e =
-    let z : k ≡ 0 = omega arith in
-    sym (ap (λ (n : ℕ). isSome (octetsFrom s n q)) z) ∙ e
-
--- as many bytes as parts
-pub octets-zero : (s : List ℕ) (at : ℕ) → octetsFrom s 0 at ≡ some []
-unfolding octetsFrom octetsIn leavesFrom
-octets-zero s at = refl
-
-under : (v j : ℕ) (d : List ℕ) (o : Option (List ℕ)) → ((bs : List ℕ) → o ≡ some bs → length bs ≡ j) → onSome o (λ bs. some (v ∷ bs)) ≡ some d → length d ≡ suc j
-under v j d none f y = absurd (let z : _≡_ {A = ℕ} 0 1 = cc in omega arith)
-under v j d (some bs) f y = let z : v ∷ bs ≡ d = cc in rw (← z) (ap suc (f bs refl))
-
-pub length-octets : (s : List ℕ) (n at : ℕ) (d : List ℕ) → octetsFrom s n at ≡ some d → length d ≡ n
-length-octets s zero at d e = let z : [] ≡ d = cc (octets-zero s at) in rw (← z)
-length-octets s (suc j) at d e = go (octetAt s at) (λ next bs. length-octets s j next bs) (sym (from-more s j at) ∙ e)
-  where
-    go : (o : Octet) → ((next : ℕ) (bs : List ℕ) → octetsFrom s j next ≡ some bs → length bs ≡ j) → more o (octetsFrom s j) ≡ some d → length d ≡ suc j
-    go Unfit f y = absurd (let z : _≡_ {A = ℕ} 0 1 = cc in omega arith)
-    go (Byte v next) f y = under v j d (octetsFrom s j next) (f next) y
-
--- how many, and whether they are bytes
-module _ (s : List ℕ) (n from lo hi : ℕ) where
-  counted-is : either (isSome (octetsFrom s n from)) (λ _. sizedOf lo hi n) (λ _. badly) ≡ tellOf (onSome (octetsFrom s n from) (stringSized lo hi))
-  unfolding tellOf
-  counted-is = go (octetsFrom s n from) refl
-    where
-      go : (o : Option (List ℕ)) → octetsFrom s n from ≡ o → either (isSome o) (λ _. sizedOf lo hi n) (λ _. badly) ≡ tellOf (onSome o (stringSized lo hi))
-      go none e = refl
-      go (some d) e = ap (sizedOf lo hi) (sym (length-octets s n from d e)) ∙ sized-told lo hi d
-
-  module _ (r : Judged) where
-    both-bad : r ≡ badly → r ≡ sizedOf lo hi n → (t : Bool) → r ≡ either t (λ _. sizedOf lo hi n) (λ _. badly)
-    both-bad e f true = f
-    both-bad e f false = e
-
-    pub count-many : r ≡ badly → hi < n → r ≡ tellOf (onSome (octetsFrom s n from) (stringSized lo hi))
-    count-many e h = both-bad e (sized-many r lo hi n e h) (isSome (octetsFrom s n from)) ∙ counted-is
-
-    module _ (t : Bool) (q : t ≡ isSome (octetsFrom s n from)) where
-      by-count : (b : Bool) → t ≡ b → either b (λ _. sizedOf lo hi n) (λ _. badly) ≡ tellOf (onSome (octetsFrom s n from) (stringSized lo hi))
-      by-count b u = ap (λ (x : Bool). either x (λ _. sizedOf lo hi n) (λ _. badly)) (sym u ∙ q) ∙ counted-is
-
-      pub count-good : r ≡ well n → lo ≤ n → n ≤ hi → t ≡ true → r ≡ tellOf (onSome (octetsFrom s n from) (stringSized lo hi))
-      count-good e g h u = sized-in r lo hi n e g h ∙ by-count true u
-
-      pub count-bad : r ≡ badly → t ≡ false → r ≡ tellOf (onSome (octetsFrom s n from) (stringSized lo hi))
-      count-bad e u = e ∙ by-count false u
+pub length-naturals : (hi : ℕ) (s : List ℕ) (n at : ℕ) (ns : List ℕ) → naturalsFrom hi s n at ≡ some ns → length ns ≡ n
+unfolding naturalsFrom naturalsIn leavesFrom
+length-naturals hi s zero at ns e = let z : [] ≡ ns = cc in rw (← z)
+length-naturals hi s (suc n) at ns e =
+    let next = endOf at (spanOf s at) in
+    joined-length n ns (naturalIn hi (numberOf (leafAt s at))) (naturalsFrom hi s n next) (λ ms. length-naturals hi s n next ms) e
 
 -- the array at a place
 module _ (s : List ℕ) (at : ℕ) (a : Extent) (y : Lists s at a) where
-  pub by-parts : (t : Bool) → a .there ≡ t → (f : List ℕ → Option Value) → onSome (partsBy t (leavesFrom s (a .size) (a .from))) (λ es. onSome (octetsIn es) f) ≡ onSome (partsOf (shallowAt s at)) (λ es. onSome (octetsIn es) f)
+  pub by-parts : (t : Bool) → a .there ≡ t → (f : Elements → Option Value) → onSome (partsBy t (leavesFrom s (a .size) (a .from))) f ≡ onSome (partsOf (shallowAt s at)) f
   by-parts t e f =
-      ap (λ (o : Option Elements). onSome o (λ es. onSome (octetsIn es) f))
+      ap (λ (o : Option Elements). onSome o f)
       (ap (λ (b : Bool). partsBy b (leavesFrom s (a .size) (a .from))) (sym e) ∙ sym (y .is))
-
-  module _ (r : Judged) (lo hi : ℕ) where
-    pub octets-good : a .there ≡ true → r ≡ tellOf (onSome (octetsFrom s (a .size) (a .from)) (stringSized lo hi)) → r ≡ readAt (Kind.arrays lo hi) s at
-    unfolding readAt judge octetsFrom
-    octets-good t e = e ∙ ap tellOf (by-parts true t (stringSized lo hi))
-
-    pub octets-bad : a .there ≡ false → r ≡ badly → r ≡ readAt (Kind.arrays lo hi) s at
-    unfolding readAt judge tellOf
-    octets-bad t e = e ∙ ap tellOf (by-parts false t (stringSized lo hi))

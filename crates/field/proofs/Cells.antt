@@ -4,8 +4,8 @@ use mathlib.Core.List.{List}
 use Prim.Native.Nat.{ℕ, zero, suc, _+_, _≤_, _<_}
 use native.Mathlib.Omega.{arith}
 use Rattle.field.specs.declared.{Judged.Judged, Located.Located, Released.Released}
-use Rattle.field.specs.{Kind.Kind, Judge.judge, Cell.Cell, Cell.judged, Cell.zero64}
-use Rattle.field.specs.{code.Told.toldOf, code.Told.locatedOf, code.Told.releasedOf, code.At.shallowAt, code.At.cellAt}
+use Rattle.field.specs.{Kind.Kind, Judge.judge, Cell.Cell, Cell.judged, Cell.valueIn, Cell.wordOf, Cell.zero64}
+use Rattle.field.specs.{code.Told.toldOf, code.Told.locatedOf, code.Told.releasedOf, code.At.shallowAt, code.At.seenAt, code.At.cellAt}
 use Rattle.field.specs.code.Read.{tellOf, readAt, unlocated, locatedBy, unreleased, releasedBy}
 
 -- a cell that is handed on by f: its value has no one place, or is looked at
@@ -16,7 +16,7 @@ module _ {A : Type 0} (f : Cell → A) (k : Kind) (s : List ℕ) where
   by-absent (suc zero) r h m d = d
   by-absent (suc (suc p)) r h m d = absurd (omega arith)
 
-  by-there : (p : ℕ) (r : A) → 2 ≤ p → r ≡ f (judged (judge k (shallowAt s p))) → r ≡ f (cellAt k s p)
+  by-there : (p : ℕ) (r : A) → 2 ≤ p → r ≡ f (judged (judge k (seenAt k s p))) → r ≡ f (cellAt k s p)
   unfolding cellAt
   by-there zero r h q = absurd (omega arith)
   by-there (suc zero) r h q = absurd (omega arith)
@@ -38,12 +38,17 @@ module _ (k : Kind) (s : List ℕ) (p : ℕ) where
     pub released-absent : (r : Released) → p < 2 → r ≡ unreleased n → r ≡ releasedOf (cellAt k s p)
     released-absent r h q = q ∙ ap unreleased e ∙ by-absent releasedOf k s p unreleased h refl refl
 
-  pub located-there : (r : Located) → 2 ≤ p → r ≡ locatedBy (judge k (shallowAt s p)) → r ≡ locatedOf (cellAt k s p)
+module _ (s : List ℕ) (p : ℕ) (h : 2 ≤ p) where
+  pub located-there : (r : Located) → r ≡ locatedBy (judge Kind.positions (shallowAt s p)) → r ≡ locatedOf (cellAt Kind.positions s p)
   unfolding locatedBy
-  located-there r h q = by-there locatedOf k s p r h q
+  located-there r q = by-there locatedOf Kind.positions s p r h q
 
-  pub released-there : (r : Released) → 2 ≤ p → r ≡ releasedBy (judge k (shallowAt s p)) → r ≡ releasedOf (cellAt k s p)
+  pub released-there : (r : Released) → r ≡ releasedBy (judge Kind.versions (shallowAt s p)) → r ≡ releasedOf (cellAt Kind.versions s p)
   unfolding releasedBy
-  released-there r h q = by-there releasedOf k s p r h q
+  released-there r q = by-there releasedOf Kind.versions s p r h q
+
+-- what a caller learns of the word: it is the value's
+pub told-word : (r : Judged) (x : Cell) → r ≡ toldOf x → r .word ≡ wordOf (valueIn x)
+told-word r x e = ap (λ (j : Judged). j .word) e
 
 pub ruleset cells = (cell-absent, cell-there, located-absent, released-absent, located-there, released-there)

@@ -16,14 +16,15 @@ use Rattle.element.specs.{Form.spanOf, Meaning.Elements, Meaning.Elements.no-mo
 use Rattle.number.specs.Number.{numberOf}
 use Rattle.field.specs.declared.{Judged.Judged, Extent.Extent}
 use Rattle.field.specs.declared.Octet.{Octet, the-variants.Byte, the-variants.Unfit}
+use Rattle.field.specs.declared.Piece.{Piece, the-variants.Bytes, the-variants.NoBytes}
 use Rattle.field.specs.{Kind.Kind, Kind.Value, Cell.Cell, Cell.judged, code.Told.cellState, code.Extent.Lists, code.Extent.partsBy}
-use Rattle.field.specs.Judge.{when, onSome, partsOf, octetIn, octetsIn, stringSized, judge}
-use Rattle.field.specs.code.At.{endOf, leavesFrom, shallowAt, cellAt, stringFilled}
+use Rattle.field.specs.Judge.{when, onSome, partsOf, octetIn, naturalsIn, octetsIn, stringSized, judge}
+use Rattle.field.specs.code.At.{endOf, leavesFrom, shallowAt, nestedEnd, cellAt, stringFilled}
 use Rattle.field.specs.code.Into.{partsCounted, leadBy, leadingIn, intoBy, leadInto, readInto}
-use Rattle.field.specs.code.Read.{badly, well, tellOf, readAt}
-use Rattle.field.specs.code.Item.{octetBy, octetAt, LowRun, isSome, octetsFrom, leadingFrom}
-use Rattle.field.proofs.Arrays.{all-more, all-none, all-done, count-many, count-good, count-bad, octets-good, octets-bad}
-use Rattle.field.proofs.{Runs.run-octet, Cells.cells}
+use Rattle.field.specs.code.Read.{badly, well, tellOf, readAt, pieceTold}
+use Rattle.field.specs.code.Item.{octetBy, octetAt, LowRun, leadingFrom, pieceBy, octetsPassed, pieceAt}
+use Rattle.field.proofs.Passing.{octetsEnd, end-next, passed-all, passed-stop, run-passed}
+use Rattle.field.proofs.{Runs.run-octet, Nested.piece-ats, Cells.cells}
 
 -- one byte, and those behind it
 pub put-cons : (room : List ℕ) (i v : ℕ) (bs : List ℕ) → i + suc (length bs) ≤ length room → putAt (set room i v) (i + 1) bs ≡ putAt room i (v ∷ bs)
@@ -60,114 +61,125 @@ lead-few s (suc j) q = rw (lead-more s j q) (go (octetAt s q) (λ next. lead-few
     go (Byte v next) f = omega (arith, f next)
 
 -- the room that is to be, while i of n bytes are put and the part at q is the next
-module _ (s : List ℕ) (n : ℕ) (whole out : List ℕ) (q i : ℕ) (g : putAt out i (leadingFrom s (n - i) q) ≡ whole) where
+module _ (s : List ℕ) (n to : ℕ) (whole out : List ℕ) (q i : ℕ) (g : putAt out (to + i) (leadingFrom s (n - i) q) ≡ whole) where
   lead-done : n ≤ i → out ≡ whole
   lead-done h =
       let z : n - i ≡ 0 = omega arith in
-      sym (ap (λ (k : ℕ). putAt out i (leadingFrom s k q)) z ∙ ap (putAt out i) (lead-zero s q) ∙ put-none out i) ∙ g
+      sym (ap (λ (k : ℕ). putAt out (to + i) (leadingFrom s k q)) z ∙ ap (putAt out (to + i)) (lead-zero s q) ∙ put-none out (to + i)) ∙ g
 
   module _ (x : Octet) (h : i < n) (e : x ≡ octetAt s q) where
-    lead-step : putAt out i (leads x (leadingFrom s (n - (i + 1)))) ≡ whole
+    lead-step : putAt out (to + i) (leads x (leadingFrom s (n - (i + 1)))) ≡ whole
     lead-step =
         let z : suc (n - (i + 1)) ≡ n - i = omega arith in
-        ap (putAt out i)
+        ap (putAt out (to + i))
         (ap (λ (y : Octet). leads y (leadingFrom s (n - (i + 1)))) e ∙ sym (lead-more s (n - (i + 1)) q) ∙ ap (λ (k : ℕ). leadingFrom s k q) z)
         ∙ g
 
     lead-unfit : x ≡ Unfit → out ≡ whole
     lead-unfit y =
-        sym (put-none out i) ∙ ap (λ (w : Octet). putAt out i (leads w (leadingFrom s (n - (i + 1))))) (sym y) ∙ lead-step
+        sym (put-none out (to + i)) ∙ ap (λ (w : Octet). putAt out (to + i) (leads w (leadingFrom s (n - (i + 1))))) (sym y) ∙ lead-step
 
-    pub lead-next : (v next : ℕ) → x ≡ Byte v next → n ≤ length out → putAt (set out i v) (i + 1) (leadingFrom s (n - (i + 1)) next) ≡ whole
+    pub lead-next : (v next : ℕ) → x ≡ Byte v next → to + n ≤ length out → putAt (set out (to + i) v) (to + (i + 1)) (leadingFrom s (n - (i + 1)) next) ≡ whole
     lead-next v next y l =
-        put-cons out i v (leadingFrom s (n - (i + 1)) next) (omega (arith, lead-few s (n - (i + 1)) next))
-        ∙ ap (λ (w : Octet). putAt out i (leads w (leadingFrom s (n - (i + 1))))) (sym y) ∙ lead-step
+        let j : to + (i + 1) ≡ to + i + 1 = omega arith in
+        rw j
+        (put-cons out (to + i) v (leadingFrom s (n - (i + 1)) next) (omega (arith, lead-few s (n - (i + 1)) next))
+        ∙ ap (λ (w : Octet). putAt out (to + i) (leads w (leadingFrom s (n - (i + 1))))) (sym y) ∙ lead-step)
 
--- whether the parts that are left are bytes is whether all are
-module _ (s : List ℕ) (n q i : ℕ) (t : Bool) (g : isSome (octetsFrom s (n - i) q) ≡ t) where
-  fit-done : n ≤ i → true ≡ t
-  fit-done h = all-done s (n - i) q t (omega arith) g
-
-  module _ (x : Octet) (h : i < n) (e : x ≡ octetAt s q) where
-    fit-unfit : x ≡ Unfit → false ≡ t
-    fit-unfit y = all-none s (n - i) q x (omega arith) e t y g
-
-    pub fit-next : (v next : ℕ) → x ≡ Byte v next → isSome (octetsFrom s (n - (i + 1)) next) ≡ t
-    fit-next v next y =
-        let z : n - i - 1 ≡ n - (i + 1) = omega arith in
-        rw z at (all-more s (n - i) q x (omega arith) e v next t y g)
+-- where the parts that are left end is where all end
+pub fit-next : (s : List ℕ) (n q i : ℕ) (t : Option ℕ) → octetsEnd s (n - i) q ≡ t → (x : Octet) → i < n → x ≡ octetAt s q → (v next : ℕ) → x ≡ Byte v next → octetsEnd s (n - (i + 1)) next ≡ t
+fit-next s n q i t g x h e v next y =
+    let z : n - i - 1 ≡ n - (i + 1) = omega arith in
+    rw z at (end-next s (n - i) q t g x (omega arith) e v next y)
 
 -- the run, byte by byte
-module _ (s : List ℕ) (n from : ℕ) where
-  pub lead-start : (room : List ℕ) → putAt room 0 (leadingFrom s (n - 0) (from + 0)) ≡ putAt room 0 (leadingFrom s n from)
-  lead-start room = rw (sub-zero, add-zero)
+module _ (s : List ℕ) (n from to : ℕ) where
+  pub lead-start : (room : List ℕ) → putAt room (to + 0) (leadingFrom s (n - 0) (from + 0)) ≡ putAt room to (leadingFrom s n from)
+  lead-start room = rw (sub-zero, add-zero, add-zero)
 
-  pub fit-start : isSome (octetsFrom s (n - 0) (from + 0)) ≡ isSome (octetsFrom s n from)
-  fit-start = rw (sub-zero, add-zero)
+  pub run-lead-next : (r : ℕ) → LowRun s from n r → (i : ℕ) → i < r → (whole out : List ℕ) → to + n ≤ length out → putAt out (to + i) (leadingFrom s (n - i) (from + i)) ≡ whole
+      → putAt (set out (to + i) (getD s (from + i) 0)) (to + (i + 1)) (leadingFrom s (n - (i + 1)) (from + (i + 1))) ≡ whole
+  run-lead-next r y i h whole out l g =
+      let behind : from + i + 1 ≡ from + (i + 1) = omega arith in
+      rw behind at
+      (lead-next s n to whole out (from + i) i g (Byte (getD s (from + i) 0) (from + i + 1)) (omega (arith, y .few)) (run-octet s from n r y i h)
+      (getD s (from + i) 0) (from + i + 1) refl l)
 
-  module _ (r : ℕ) (y : LowRun s from n r) (i : ℕ) (h : i < r) where
-    behind : from + i + 1 ≡ from + (i + 1)
-    behind = omega arith
+-- the room that is left
+module _ (s : List ℕ) (n from to : ℕ) (room out mid : List ℕ) (q i p j : ℕ) (a : putAt mid (to + j) (leadingFrom s (n - j) p) ≡ putAt room to (leadingFrom s n from)) (b : putAt out (to + i) (leadingFrom s (n - i) q) ≡ putAt mid (to + j) (leadingFrom s (n - j) p)) where
+  pub lead-end : n ≤ i → out ≡ putAt room to (leadingFrom s n from)
+  lead-end h = lead-done s n to (putAt room to (leadingFrom s n from)) out q i (b ∙ a) h
 
-    pub run-lead-next : (whole out : List ℕ) → n ≤ length out → putAt out i (leadingFrom s (n - i) (from + i)) ≡ whole → putAt (set out i (getD s (from + i) 0)) (i + 1) (leadingFrom s (n - (i + 1)) (from + (i + 1))) ≡ whole
-    run-lead-next whole out l g =
-        rw behind at
-        (lead-next s n whole out (from + i) i g (Byte (getD s (from + i) 0) (from + i + 1)) (omega (arith, y .few)) (run-octet s from n r y i h)
-        (getD s (from + i) 0) (from + i + 1) refl l)
+  pub lead-stop : (x : Octet) → i < n → x ≡ octetAt s q → x ≡ Unfit → out ≡ putAt room to (leadingFrom s n from)
+  lead-stop x h e y = lead-unfit s n to (putAt room to (leadingFrom s n from)) out q i (b ∙ a) x h e y
 
-    pub run-fit-next : (t : Bool) → isSome (octetsFrom s (n - i) (from + i)) ≡ t → isSome (octetsFrom s (n - (i + 1)) (from + (i + 1))) ≡ t
-    run-fit-next t g =
-        rw behind at
-        (fit-next s n (from + i) i t g (Byte (getD s (from + i) 0) (from + i + 1)) (omega (arith, y .few)) (run-octet s from n r y i h)
-        (getD s (from + i) 0) (from + i + 1) refl)
+-- what is said at the end
+module _ (s : List ℕ) (n from q i : ℕ) (g : octetsEnd s (n - i) q ≡ octetsEnd s n from) where
+  pub told-end : n ≤ i → Bytes n q ≡ octetsPassed s n from
+  told-end h = passed-all s n from (n - i) q g (omega arith)
 
--- what is said at the end, and the room that is left
-module _ (s : List ℕ) (n from : ℕ) (room out mid : List ℕ) (q i p j : ℕ) (a : putAt mid j (leadingFrom s (n - j) p) ≡ putAt room 0 (leadingFrom s n from)) (b : putAt out i (leadingFrom s (n - i) q) ≡ putAt mid j (leadingFrom s (n - j) p)) where
-  pub lead-end : n ≤ i → out ≡ putAt room 0 (leadingFrom s n from)
-  lead-end h = lead-done s n (putAt room 0 (leadingFrom s n from)) out q i (b ∙ a) h
+  pub told-stop : (x : Octet) → i < n → x ≡ octetAt s q → x ≡ Unfit → NoBytes ≡ octetsPassed s n from
+  told-stop x h e y = passed-stop s n from (n - i) q g x (omega arith) e y
 
-  pub lead-stop : (x : Octet) → i < n → x ≡ octetAt s q → x ≡ Unfit → out ≡ putAt room 0 (leadingFrom s n from)
-  lead-stop x h e y = lead-unfit s n (putAt room 0 (leadingFrom s n from)) out q i (b ∙ a) x h e y
-
-module _ (s : List ℕ) (n from hi : ℕ) (r : Judged) (q i : ℕ) (g : isSome (octetsFrom s (n - i) q) ≡ isSome (octetsFrom s n from)) where
-  pub told-end : r ≡ well n → n ≤ hi → n ≤ i → r ≡ tellOf (onSome (octetsFrom s n from) (stringSized 0 hi))
-  told-end e l h = count-good s n from 0 hi r true (fit-done s n q i (isSome (octetsFrom s n from)) g h) e (omega arith) l refl
-
-  pub told-stop : r ≡ badly → (x : Octet) → i < n → x ≡ octetAt s q → x ≡ Unfit → r ≡ tellOf (onSome (octetsFrom s n from) (stringSized 0 hi))
-  told-stop e x h f y = count-bad s n from 0 hi r false (fit-unfit s n q i (isSome (octetsFrom s n from)) g x h f y) e refl
-
-pub ruleset leadings = (kept, roomy, lead-start, fit-start, run-lead-next, run-fit-next, lead-next, fit-next, lead-end, lead-stop, told-end, told-stop, arith)
+pub ruleset leadings = (kept, roomy, lead-start, run-lead-next, lead-next, run-passed, fit-next, lead-end, lead-stop, told-end, told-stop, arith)
 
 count-leaves : (s : List ℕ) (n q : ℕ) → partsCounted (leavesFrom s n q) ≡ n
 unfolding partsCounted leavesFrom
 count-leaves s zero q = refl
 count-leaves s (suc n) q = ap suc (count-leaves s n (endOf q (spanOf s q)))
 
+-- bytes as an array of them
+module _ (p : Piece) (r : Judged) where
+  pub told-bytes : (size next : ℕ) → p ≡ Bytes size next → r ≡ well size → r ≡ pieceTold p
+  told-bytes size next e q = q ∙ ap pieceTold (sym e)
+
+  pub told-none : p ≡ NoBytes → r ≡ badly → r ≡ pieceTold p
+  told-none e q = q ∙ ap pieceTold (sym e)
+
+pub ruleset tolds = (told-bytes, told-none)
+
 -- the array at a place
-module _ (s : List ℕ) (at : ℕ) (a : Extent) (y : Lists s at a) (room : List ℕ) where
-  lead-parts : (t : Bool) → a .there ≡ t → intoBy (partsBy t (leavesFrom s (a .size) (a .from))) room ≡ leadInto s at room
+module _ (s : List ℕ) (at : ℕ) (a : Extent) (y : Lists s at a) (room : List ℕ) (to : ℕ) where
+  lead-parts : (t : Bool) → a .there ≡ t → intoBy (partsBy t (leavesFrom s (a .size) (a .from))) room to ≡ leadInto s at room to
   unfolding leadInto
   lead-parts t e =
-      ap (λ (o : Option Elements). intoBy o room)
+      ap (λ (o : Option Elements). intoBy o room to)
       (ap (λ (b : Bool). partsBy b (leavesFrom s (a .size) (a .from))) (sym e) ∙ sym (y .is))
 
-  pub lead-nowhere : a .there ≡ false → room ≡ leadInto s at room
+  pub lead-nowhere : a .there ≡ false → room ≡ leadInto s at room to
   lead-nowhere e = lead-parts false e
 
   module _ (e : a .there ≡ true) where
-    pub lead-long : length room < a .size → room ≡ leadInto s at room
+    pub lead-long : length room - to < a .size → room ≡ leadInto s at room to
     lead-long h =
-        sym (simp (count-leaves s (a .size) (a .from), lt-leb (a .size) (length room) h)) ∙ lead-parts true e
+        sym (simp (count-leaves s (a .size) (a .from), lt-leb (a .size) (length room - to) h)) ∙ lead-parts true e
 
-    pub lead-there : (out : List ℕ) → a .size ≤ length room → out ≡ putAt room 0 (leadingFrom s (a .size) (a .from)) → out ≡ leadInto s at room
+    pub lead-there : (out : List ℕ) → a .size ≤ length room - to → out ≡ putAt room to (leadingFrom s (a .size) (a .from)) → out ≡ leadInto s at room to
     unfolding leadingFrom
     lead-there out h g =
-        g ∙ sym (simp (count-leaves s (a .size) (a .from), le-leb (a .size) (length room) h)) ∙ lead-parts true e
+        g ∙ sym (simp (count-leaves s (a .size) (a .from), le-leb (a .size) (length room - to) h)) ∙ lead-parts true e
 
-    pub told-long : (r : Judged) → length room < a .size → r ≡ badly → r ≡ readAt (Kind.arrays 0 (length room)) s at
-    told-long r h g = octets-good s at a y r 0 (length room) e (count-many s (a .size) (a .from) 0 (length room) r g h)
+pub ruleset array-intos = (lead-nowhere, lead-long, lead-there, piece-ats, arith)
 
-pub ruleset array-intos = (lead-nowhere, lead-long, lead-there, told-long, octets-good, octets-bad, arith)
+-- it is worth what is said of it, with all of a room
+pub octets-told : (s : List ℕ) (at hi : ℕ) (r : Judged) (x : Piece) → x ≡ pieceAt (hi - 0) s at → r ≡ pieceTold x → r ≡ readAt (Kind.arrays 0 hi) s at
+unfolding readAt judge tellOf pieceAt
+octets-told s at hi r x e q = q ∙ ap pieceTold (e ∙ ap (λ (n : ℕ). pieceAt n s at) (sub-zero hi)) ∙ parts (partsOf (shallowAt s at))
+  where
+    next : ℕ
+    next = nestedEnd s at (spanOf s at)
+
+    sized : (d : List ℕ) (b : Bool) → pieceTold (pieceBy (either b (λ _. some d) (λ _. none)) next) ≡ tellOf (when b (Value.string d))
+    sized d true = refl
+    sized d false = refl
+
+    bytes : (o : Option (List ℕ)) → pieceTold (pieceBy (onSome o (λ d. either (leb (length d) hi) (λ _. some d) (λ _. none))) next) ≡ tellOf (onSome o (stringSized 0 hi))
+    bytes none = refl
+    bytes (some d) = rw (le-leb 0 (length d) (omega arith)) (sized d (leb (length d) hi))
+
+    parts : (o : Option Elements) → pieceTold (pieceBy (onSome o (λ es. onSome (octetsIn es) (λ d. either (leb (length d) hi) (λ _. some d) (λ _. none)))) next) ≡ tellOf (onSome o (λ es. onSome (octetsIn es) (stringSized 0 hi)))
+    parts none = refl
+    parts (some es) = bytes (octetsIn es)
 
 -- a field by its place
 module _ (s : List ℕ) where
@@ -177,13 +189,13 @@ module _ (s : List ℕ) where
   read-absent (suc zero) room h = refl
   read-absent (suc (suc p)) room h = absurd (omega arith)
 
-  pub read-there : (p : ℕ) (room out : List ℕ) → 2 ≤ p → out ≡ leadInto s p room → out ≡ readInto s p room
+  pub read-there : (p : ℕ) (room out : List ℕ) → 2 ≤ p → out ≡ leadInto s p room 0 → out ≡ readInto s p room
   unfolding readInto
   read-there zero room out h q = absurd (omega arith)
   read-there (suc zero) room out h q = absurd (omega arith)
   read-there (suc (suc p)) room out h q = q
 
-pub ruleset reads = (read-absent, read-there, cells)
+pub ruleset reads = (read-absent, read-there, octets-told, cells, arith)
 
 -- what a caller learns: the room of a missing field is as it was
 pub into-missing : (s : List ℕ) (room : List ℕ) → readInto s 0 room ≡ room
@@ -191,27 +203,27 @@ unfolding readInto
 into-missing s room = refl
 
 -- its length stays
-length-lead : (o : Option Elements) (room : List ℕ) → length (intoBy o room) ≡ length room
-length-lead none room = refl
-length-lead (some es) room = go (leb (partsCounted es) (length room))
+pub length-lead : (o : Option Elements) (room : List ℕ) (to : ℕ) → length (intoBy o room to) ≡ length room
+length-lead none room to = refl
+length-lead (some es) room to = go (leb (partsCounted es) (length room - to))
   where
-    go : (b : Bool) → length (either b (λ _. putAt room 0 (leadingIn es)) (λ _. room)) ≡ length room
-    go true = length-put room 0 (leadingIn es)
+    go : (b : Bool) → length (either b (λ _. putAt room to (leadingIn es)) (λ _. room)) ≡ length room
+    go true = length-put room to (leadingIn es)
     go false = refl
 
 pub length-into : (s : List ℕ) (p : ℕ) (room : List ℕ) → length (readInto s p room) ≡ length room
 unfolding readInto leadInto
 length-into s zero room = refl
 length-into s (suc zero) room = refl
-length-into s (suc (suc p)) room = length-lead (partsOf (shallowAt s (suc (suc p)))) room
+length-into s (suc (suc p)) room = length-lead (partsOf (shallowAt s (suc (suc p)))) room 0
 
 -- where all parts are bytes, those that lead are all
 pub record AllLead (es : Elements) (d : List ℕ) : Type 0 where
   pub is : leadingIn es ≡ d
   pub count : partsCounted es ≡ length d
 
-all-lead : (es : Elements) (d : List ℕ) → octetsIn es ≡ some d → AllLead es d
-unfolding octetsIn leadingIn partsCounted
+pub all-lead : (es : Elements) (d : List ℕ) → octetsIn es ≡ some d → AllLead es d
+unfolding naturalsIn leadingIn partsCounted
 all-lead no-more d e = let z : [] ≡ d = cc in rw (← z) (record { is = refl; count = refl })
 all-lead (more x es) d e = go (octetIn (numberOf x)) (octetsIn es) refl (λ bs. all-lead es bs) e
   where
@@ -227,20 +239,20 @@ all-lead (more x es) d e = go (octetIn (numberOf x)) (octetsIn es) refl (λ bs. 
         })
 
 module _ (room : List ℕ) (v : Value) where
-  good-sized : (es : Elements) (d : List ℕ) → AllLead es d → (t : Bool) → leb (length d) (length room) ≡ t → judged (when (leb 0 (length d) && t) (Value.string d)) ≡ Cell.good v → intoBy (some es) room ≡ stringFilled (some v) room
+  good-sized : (es : Elements) (d : List ℕ) → AllLead es d → (t : Bool) → leb (length d) (length room) ≡ t → judged (when (leb 0 (length d) && t) (Value.string d)) ≡ Cell.good v → intoBy (some es) room 0 ≡ stringFilled (some v) room
   good-sized es d y false q e =
       let f : leb 0 (length d) ≡ true = le-leb 0 (length d) (omega arith) in
       absurd (let z : _≡_ {A = ℕ} 0 1 = ap cellState (sym (simp f at e)) in omega arith)
   good-sized es d y true q e =
       let f : leb 0 (length d) ≡ true = le-leb 0 (length d) (omega arith) in
       let z : Value.string d ≡ v = cc (simp f at e) in
-      rw (← z) (simp (y .is, y .count, q))
+      rw (← z) (simp (y .is, y .count, sub-zero, q))
 
-  good-octets : (es : Elements) (o : Option (List ℕ)) → octetsIn es ≡ o → judged (onSome o (stringSized 0 (length room))) ≡ Cell.good v → intoBy (some es) room ≡ stringFilled (some v) room
+  good-octets : (es : Elements) (o : Option (List ℕ)) → octetsIn es ≡ o → judged (onSome o (stringSized 0 (length room))) ≡ Cell.good v → intoBy (some es) room 0 ≡ stringFilled (some v) room
   good-octets es none q e = absurd (let z : _≡_ {A = ℕ} 0 1 = ap cellState (sym e) in omega arith)
   good-octets es (some d) q e = good-sized es d (all-lead es d q) (leb (length d) (length room)) refl e
 
-  good-parts : (o : Option Elements) → judged (onSome o (λ es. onSome (octetsIn es) (stringSized 0 (length room)))) ≡ Cell.good v → intoBy o room ≡ stringFilled (some v) room
+  good-parts : (o : Option Elements) → judged (onSome o (λ es. onSome (octetsIn es) (stringSized 0 (length room)))) ≡ Cell.good v → intoBy o room 0 ≡ stringFilled (some v) room
   good-parts none e = absurd (let z : _≡_ {A = ℕ} 0 1 = ap cellState (sym e) in omega arith)
   good-parts (some es) e = good-octets es (octetsIn es) refl e
 

@@ -1,6 +1,7 @@
 pub mod Shallow
 pub mod Numbers
 pub mod Reals
+pub mod Singles
 pub mod Heads
 pub mod Flags
 pub mod Views
@@ -8,8 +9,15 @@ pub mod Texts
 pub mod Octets
 pub mod Arrays
 pub mod Runs
+pub mod Passing
 pub mod Cells
+pub mod Nested
 pub mod Intos
+pub mod Naturals
+pub mod Entries
+pub mod PutCounters
+pub mod PutEntries
+pub mod Downlinks
 pub mod Strings
 pub mod Positions
 pub mod Feeding

@@ -5,7 +5,7 @@ use mathlib.Core.{List.List, List.[], List._∷_, Option.Option, Option.some, Op
 use Prim.Native.Nat.{ℕ, zero, suc}
 use lib.Ieee.{Float}
 use Rattle.octets.specs.Choice.{either}
-use Rattle.element.specs.{Form.spanOf, Meaning.Elements, code.At.leafAt}
+use Rattle.element.specs.{Form.spanOf, code.At.leafAt}
 use Rattle.number.specs.Number.{numberOf}
 use Rattle.field.specs.declared.{Extent.Extent, Judged.Judged, Located.Located, Measure.Measure}
 use Rattle.field.specs.{Kind.Kind, code.At.endOf, code.At.leavesFrom, code.At.shallowAt, Cell.located, code.Read.unlocated, code.Read.locatedBy}
@@ -13,7 +13,7 @@ use Rattle.field.specs.{code.Extent.partsBy, code.Extent.Lists}
 use Rattle.field.specs.Judge.{onSome, realIn, realsIn, threeOf, judge}
 use Rattle.field.specs.code.Item.{no-measure, measureBy, measureAt, realsFrom}
 use Rattle.field.specs.code.Read.{readAt}
-use Rattle.field.proofs.Reals.{read-some, read-none}
+use Rattle.field.proofs.{Arrays.by-parts, Reals.read-some, Reals.read-none}
 
 -- one real
 module _ (s : List ℕ) (at : ℕ) (real : Judged) (e : real ≡ readAt Kind.reals s at) where
@@ -107,9 +107,7 @@ not-three s (suc (suc (suc (suc n)))) at h =
 module _ (s : List ℕ) (at : ℕ) (a : Extent) (y : Lists s at a) (r : Located) where
   by-reals : (t : Bool) → a .there ≡ t → onSome (partsBy t (leavesFrom s (a .size) (a .from))) (λ es. onSome (realsIn es) threeOf) ≡ judge Kind.positions (shallowAt s at)
   unfolding judge
-  by-reals t e =
-      ap (λ (o : Option Elements). onSome o (λ es. onSome (realsIn es) threeOf))
-      (ap (λ (b : Bool). partsBy b (leavesFrom s (a .size) (a .from))) (sym e) ∙ sym (y .is))
+  by-reals t e = by-parts s at a y t e (λ es. onSome (realsIn es) threeOf)
 
   pub located-three : a .there ≡ true → a .size ≡ 3 → r ≡ locatedBy (onSome (realsFrom s 3 (a .from)) threeOf) → r ≡ locatedBy (judge Kind.positions (shallowAt s at))
   unfolding realsFrom

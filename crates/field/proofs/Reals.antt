@@ -122,7 +122,7 @@ pub ruleset reals = (real-at-is, real-wide, arith)
 
 -- a real that is read is the number's there
 module _ (s : List ℕ) (at : ℕ) (a : Judged) (e : a ≡ readAt Kind.reals s at) where
-  number-read : a ≡ tellOf (realValueIn (numberOf (leafAt s at)))
+  pub number-read : a ≡ tellOf (realValueIn (numberOf (leafAt s at)))
   unfolding readAt judge
   number-read = e ∙ ap (λ (n : Number). tellOf (realValueIn n)) (number-there s at)
 

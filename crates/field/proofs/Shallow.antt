@@ -10,13 +10,17 @@ use Rattle.element.specs.declared.Span.{Span, the-variants.Cut, the-variants.En
 use Rattle.element.specs.{Lead.classOf, Form.spanOf, Meaning.Element, Meaning.Elements, Meaning.leafOf}
 use Rattle.element.specs.{Meaning.Element.null, Meaning.Element.list, Meaning.Element.table, Meaning.Fields.no-field, code.At.leafTo, code.At.leafAt}
 use Rattle.element.proofs.At.{by-span}
-use Rattle.field.specs.code.At.{shallowBy, shallowAt}
+use Rattle.field.specs.code.At.{shallowBy, shallowAt, nestedBy, nestedAt}
 
 module _ (s : List ℕ) (at : ℕ) where
   -- an element whose byte is there is read by its span
   pub by-shallow : (x : Span) → at < length s → spanOf s at ≡ x → shallowAt s at ≡ shallowBy s at x
   unfolding shallowAt
   by-shallow x h e = simp (lt-ltb at (length s) h, e)
+
+  pub by-nested : (x : Span) → at < length s → spanOf s at ≡ x → nestedAt s at ≡ nestedBy s at x
+  unfolding nestedAt
+  by-nested x h e = simp (lt-ltb at (length s) h, e)
 
   pub shallow-past : length s ≤ at → shallowAt s at ≡ null
   unfolding shallowAt

@@ -39,7 +39,7 @@ here Cell.double = false
 here Cell.bad = false
 here (Cell.good v) = true
 
--- a value as 64 bits: a number, a mark, or how many bytes; 0 for the others
+-- a value as 64 bits: a number, a mark, or how many bytes or parts; 0 for the others
 abbrev pub wordOf : Value → ℕ
 wordOf Value.nothing = 0
 wordOf (Value.number z) = bitsOf 64 z
@@ -48,6 +48,8 @@ wordOf (Value.mark true) = 1
 wordOf (Value.mark false) = 0
 wordOf (Value.position x y z) = 0
 wordOf (Value.string d) = length d
+wordOf (Value.counts ns) = length ns
+wordOf (Value.strings ds) = length ds
 wordOf (Value.release a b c) = 0
 
 abbrev pub zero64 : Float
@@ -66,19 +68,23 @@ pub record Views : Type 0 where
   pub mark : Bool
   pub position : Position
   pub string : List ℕ
+  pub counts : List ℕ
+  pub strings : List (List ℕ)
   pub release : List ℕ
 
-abbrev pub views : ℤ → Float → Bool → Position → List ℕ → List ℕ → Views
-views z x b p d r = record { number = z; figure = x; mark = b; position = p; string = d; release = r }
+abbrev pub views : ℤ → Float → Bool → Position → List ℕ → List ℕ → List (List ℕ) → List ℕ → Views
+views z x b p d ns ds r = record { number = z; figure = x; mark = b; position = p; string = d; counts = ns; strings = ds; release = r }
 
 abbrev pub viewsOf : Value → Views
-viewsOf Value.nothing = views (pos 0) zero64 false origin [] []
-viewsOf (Value.number z) = views z zero64 false origin [] []
-viewsOf (Value.figure x) = views (pos 0) x false origin [] []
-viewsOf (Value.mark b) = views (pos 0) zero64 b origin [] []
-viewsOf (Value.position x y z) = views (pos 0) zero64 false (located x y z) [] []
-viewsOf (Value.string d) = views (pos 0) zero64 false origin d []
-viewsOf (Value.release a b c) = views (pos 0) zero64 false origin [] (a ∷ (b ∷ (c ∷ [])))
+viewsOf Value.nothing = views (pos 0) zero64 false origin [] [] [] []
+viewsOf (Value.number z) = views z zero64 false origin [] [] [] []
+viewsOf (Value.figure x) = views (pos 0) x false origin [] [] [] []
+viewsOf (Value.mark b) = views (pos 0) zero64 b origin [] [] [] []
+viewsOf (Value.position x y z) = views (pos 0) zero64 false (located x y z) [] [] [] []
+viewsOf (Value.string d) = views (pos 0) zero64 false origin d [] [] []
+viewsOf (Value.counts ns) = views (pos 0) zero64 false origin [] ns [] []
+viewsOf (Value.strings ds) = views (pos 0) zero64 false origin [] [] ds []
+viewsOf (Value.release a b c) = views (pos 0) zero64 false origin [] [] [] (a ∷ (b ∷ (c ∷ [])))
 
 abbrev pub figureOf : Value → Float
 figureOf v = viewsOf v .figure

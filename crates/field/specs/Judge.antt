@@ -3,8 +3,8 @@ use Prim.Native.Nat.{ℕ, suc, _^_}
 use mathlib.Core.Bool.{Bool, true, false, _&&_}
 use mathlib.Core.{List.List, List.[], List._∷_, Option.Option, Option.some, Option.none}
 use lib.{Dec.leb, IntN.ℤ, IntN.pos, IntN.negsuc, ListN.length}
-use lib.Ieee.{Float, binary64, ofInt}
-use Rattle.octets.specs.Choice.{either}
+use lib.Ieee.{Float, binary32, binary64, ofInt, fits}
+use Rattle.octets.specs.{Choice.either, Pieces.strung}
 use Rattle.element.specs.{Meaning.Element, Meaning.Elements, Meaning.Elements.no-more, Meaning.Elements.more}
 use Rattle.element.specs.Meaning.Element.{null, truth, whole, single, double, text, octets, typed, list, table}
 use Rattle.number.specs.declared.Number.{Number, the-variants.Signed, the-variants.Unsigned, the-variants.Real, the-variants.Not}
@@ -40,11 +40,15 @@ realIn (Unsigned n) = wholeReal (pos n)
 realIn (Real x) = some x
 realIn Not = none
 
+-- a number from 0 to hi
+abbrev pub naturalIn : ℕ → Number → Option ℕ
+naturalIn hi (Signed z) = none
+naturalIn hi (Unsigned n) = either (leb n hi) (λ _. some n) (λ _. none)
+naturalIn hi (Real x) = none
+naturalIn hi Not = none
+
 abbrev pub octetIn : Number → Option ℕ
-octetIn (Signed z) = none
-octetIn (Unsigned n) = either (leb n 255) (λ _. some n) (λ _. none)
-octetIn (Real x) = none
-octetIn Not = none
+octetIn n = naturalIn 255 n
 
 -- views of an element
 abbrev pub truthOf : Element → Option Bool
@@ -95,10 +99,21 @@ isTable (typed t d) = false
 isTable (list es) = false
 isTable (table fs) = true
 
--- the bytes that the parts of an array are
-unfoldable pub octetsIn : Elements → Option (List ℕ)
-octetsIn no-more = some []
-octetsIn (more e es) = onSome (octetIn (numberOf e)) (λ b. onSome (octetsIn es) (λ bs. some (b ∷ bs)))
+-- the numbers from 0 to hi that the parts of an array are
+unfoldable pub naturalsIn : ℕ → Elements → Option (List ℕ)
+naturalsIn hi no-more = some []
+naturalsIn hi (more e es) = onSome (naturalIn hi (numberOf e)) (λ n. onSome (naturalsIn hi es) (λ ns. some (n ∷ ns)))
+
+abbrev pub octetsIn : Elements → Option (List ℕ)
+octetsIn es = naturalsIn 255 es
+
+-- the arrays of at most so many bytes that they are
+abbrev pub pieceIn : ℕ → Element → Option (List ℕ)
+pieceIn most e = onSome (partsOf e) (λ es. onSome (octetsIn es) (λ d. either (leb (length d) most) (λ _. some d) (λ _. none)))
+
+unfoldable pub piecesIn : ℕ → Elements → Option (List (List ℕ))
+piecesIn most no-more = some []
+piecesIn most (more e es) = onSome (pieceIn most e) (λ d. onSome (piecesIn most es) (λ ds. some (d ∷ ds)))
 
 -- the reals that they are
 unfoldable pub realsIn : Elements → Option (List Float)
@@ -113,6 +128,13 @@ threeOf (x ∷ (y ∷ [])) = none
 threeOf (x ∷ (y ∷ (z ∷ []))) = some (Value.position x y z)
 threeOf (x ∷ (y ∷ (z ∷ (w ∷ rest)))) = none
 
+-- no more numbers, or arrays and bytes in them, than so many
+abbrev pub countsSized : ℕ → List ℕ → Option Value
+countsSized many ns = when (leb (length ns) many) (Value.counts ns)
+
+abbrev pub stringsSized : ℕ → ℕ → List (List ℕ) → Option Value
+stringsSized many all ds = when (leb (length ds) many && leb (length (strung ds)) all) (Value.strings ds)
+
 -- so many to so many bytes
 abbrev pub stringSized : ℕ → ℕ → List ℕ → Option Value
 stringSized lo hi d = when (leb lo (length d) && leb (length d) hi) (Value.string d)
@@ -120,9 +142,12 @@ stringSized lo hi d = when (leb lo (length d) && leb (length d) hi) (Value.strin
 unfoldable pub judge : Kind → Element → Option Value
 judge (Kind.wholes lo hi) e = wholeIn lo hi (numberOf e)
 judge Kind.reals e = onSome (realIn (numberOf e)) (λ x. some (Value.figure x))
+judge Kind.singles e = onSome (realIn (numberOf e)) (λ x. when (fits binary32 x) (Value.figure x))
 judge Kind.flags e = onSome (truthOf e) (λ b. some (Value.mark b))
 judge Kind.positions e = onSome (partsOf e) (λ es. onSome (realsIn es) threeOf)
 judge (Kind.arrays lo hi) e = onSome (partsOf e) (λ es. onSome (octetsIn es) (stringSized lo hi))
+judge (Kind.counters many) e = onSome (partsOf e) (λ es. onSome (naturalsIn 0xFFFFFFFF es) (countsSized many))
+judge (Kind.pieces many most all) e = onSome (partsOf e) (λ es. onSome (piecesIn most es) (stringsSized many all))
 judge (Kind.texts lo hi) e = onSome (textOf e) (stringSized lo hi)
 judge Kind.versions e = onSome (textOf e) versionOf
 judge Kind.words e = onSome (textOf e) (λ d. some Value.nothing)

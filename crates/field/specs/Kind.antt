@@ -1,4 +1,4 @@
--- Document 01, "Commands" and "Ranges": the kinds of values that fields have, and the values that a record keeps.
+-- Document 01, "Commands" and "Ranges", and document 02, Q-2: the kinds of values that fields have, and the values that a record keeps.
 use Prim.Native.Nat.{ℕ}
 use mathlib.Core.{Bool.Bool, List.List}
 use lib.{IntN.ℤ, Ieee.Float}
@@ -8,11 +8,17 @@ pub data Kind : Type 0 where
   wholes : ℕ → ℕ → Kind
   -- a real: a finite float, or a whole number from −2^53 to 2^53
   reals : Kind
+  -- a real that single precision holds exactly
+  singles : Kind
   flags : Kind
   -- an array of three reals
   positions : Kind
   -- an array of so many to so many numbers from 0 to 255
   arrays : ℕ → ℕ → Kind
+  -- an array of at most so many numbers from 0 to 2^32 − 1
+  counters : ℕ → Kind
+  -- an array of at most so many arrays of numbers from 0 to 255, each of at most so many and together of at most so many
+  pieces : ℕ → ℕ → ℕ → Kind
   -- a text of so many to so many bytes
   texts : ℕ → ℕ → Kind
   versions : Kind
@@ -27,6 +33,8 @@ pub data Value : Type 0 where
   mark : Bool → Value
   position : Float → Float → Float → Value
   string : List ℕ → Value
+  counts : List ℕ → Value
+  strings : List (List ℕ) → Value
   release : ℕ → ℕ → ℕ → Value
 
 -- the ranges of document 01, by name: whole numbers

@@ -4,4 +4,5 @@ pub mod Into
 pub mod Read
 pub mod Extent
 pub mod Item
+pub mod Lent
 pub mod Feed

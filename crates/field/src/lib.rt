@@ -1,19 +1,23 @@
 // The value of one field, read at its place in a payload under its kind.
 mod array;
+mod counters;
 mod flag;
 mod head;
 mod into;
 mod locate;
 mod map;
+mod pieces;
 mod real;
 mod text;
 mod version;
 mod whole;
 
 ghost use mathlib.Core.Path.{_≡_};
-ghost use Prim.Native.Nat.{_+_, _<_};
+ghost use Prim.Native.Nat.{_+_, _≤_, _<_};
 ghost use lib.ListN.{length};
-ghost use Rattle.field.specs.{Kind.Kind, Judge.judge, Cell.zero64, code.Told.toldOf, code.Told.locatedOf, code.Told.releasedOf};
+ghost use Rattle.octets.specs.{Bytes.putAt, Pieces.downlinkBytes};
+ghost use Rattle.field.specs.{Kind.Kind, Judge.judge, Cell.zero64, Cell.valueIn, Cell.wordOf, Cell.viewsOf};
+ghost use Rattle.field.specs.{code.Told.toldOf, code.Told.locatedOf, code.Told.releasedOf};
 ghost use Rattle.field.specs.{code.At.shallowAt, code.At.cellAt, code.At.stringFilled, code.Into.readInto};
 
 // A value's places begin here: those below say that it has none, or several.
@@ -71,6 +75,12 @@ enum Octet {
     Unfit,
 }
 
+// Numbers from 0 to 255 behind each other, or an array of them: how many, and the place behind them; or something else.
+enum Piece {
+    Bytes { size: usize, next: usize },
+    NoBytes,
+}
+
 // A real of an array, if it is one, and the place behind it.
 struct Measure {
     there: bool,
@@ -112,6 +122,16 @@ pub fn real_cell(s: &[u8], p: usize) -> Judged
         return absent(p);
     }
     real::real_at(s, p)
+}
+
+// A real that single precision holds exactly.
+pub fn single_cell(s: &[u8], p: usize) -> Judged
+    ensures { λ r. ⌜ r ≡ toldOf (cellAt Kind.singles (now (s .entry)) p) ⌝ }
+{
+    if p < SOMEWHERE {
+        return absent(p);
+    }
+    real::single_at(s, p)
 }
 
 pub fn flag_cell(s: &[u8], p: usize) -> Judged
@@ -179,7 +199,37 @@ pub fn octets_read(s: &[u8], p: usize, out: &mut [u8]) -> Judged
     if p < SOMEWHERE {
         return absent(p);
     }
-    into::array_into(s, p, out)
+    into::told(into::array_into(s, p, out, 0))
+}
+
+// An array of at most `many` numbers from 0 to 2^32 - 1: how many it has.
+pub fn counters_cell(s: &[u8], p: usize, many: usize) -> Judged
+    ensures { λ r. ⌜ r ≡ toldOf (cellAt (Kind.counters many) (now (s .entry)) p) ⌝ }
+{
+    if p < SOMEWHERE {
+        return absent(p);
+    }
+    counters::counters_at(s, p, many)
+}
+
+// An array of at most `many` arrays of bytes, each of at most `most` and together of at most `all`: how many arrays it has.
+pub fn pieces_cell(s: &[u8], p: usize, many: usize, most: usize, all: usize) -> Judged
+    ensures { λ r. ⌜ r ≡ toldOf (cellAt (Kind.pieces many most all) (now (s .entry)) p) ⌝ }
+{
+    if p < SOMEWHERE {
+        return absent(p);
+    }
+    pieces::pieces_at(s, p, many, most, all)
+}
+
+// The lent bytes of a downlink, from the room's start on: its counters, at q, and its data entries, n of them at p. Zeros for what is not there.
+pub fn downlink_into(s: &[u8], q: usize, p: usize, n: usize, out: &mut [u8])
+    requires { ⌜ (n ≡ wordOf (valueIn (cellAt (Kind.pieces 16 245 800) (now s) p))) × (880 ≤ length (now out)) ⌝ }
+    ensures { λ _. ⌜ now (out .exit) ≡ putAt (now (out .entry)) 0 (downlinkBytes (viewsOf (valueIn (cellAt (Kind.counters 16) (now (s .entry)) q)) .counts) (viewsOf (valueIn (cellAt (Kind.pieces 16 245 800) (now (s .entry)) p)) .strings)) ⌝ }
+{
+    octets::clear(out, 0, 80);
+    counters::counters_into(s, q, out);
+    pieces::pieces_into(s, p, n, out);
 }
 
 // The bytes of the text at a place, from the room's start on; nothing where no text stands or its bytes have no room.

@@ -3,6 +3,7 @@ use crate::GOOD;
 use crate::Judged;
 use crate::whole::bad;
 use number::Number;
+use number::narrow::fits_single;
 use number::number_at;
 use number::whole::real_bits;
 use octets::big_at;
@@ -27,6 +28,20 @@ pub fn real_at(s: &[u8], at: usize) -> Judged
         }
     }
     real_in(number_at(s, at))
+}
+
+// A real that single precision holds exactly.
+pub fn single_at(s: &[u8], at: usize) -> Judged
+    ensures { λ r. ⌜ r ≡ readAt Kind.singles (now (s .entry)) at ⌝ }
+{
+    let real = real_at(s, at);
+    if real.state == GOOD {
+        if fits_single(f64::to_bits(real.figure)) {
+            return real;
+        }
+        return bad();
+    }
+    bad()
 }
 
 // A finite real of eight bytes n, where they are there: its exponent's field is not all ones.

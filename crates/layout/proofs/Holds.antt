@@ -1,10 +1,10 @@
 -- The record of any bytes is one that a program can hold: n bytes write a number below 256 ^ n, so each of its values has room in its stretch. So it is
 -- the record of its own image. By the command. Assumes nothing.
-use mathlib.Core.{Path._≡_, Path.refl, Path.subst, Bool.Bool, Bool.true, Bool.false}
+use mathlib.Core.{Path._≡_, Path.refl, Bool.Bool, Bool.true, Bool.false}
 use mathlib.Core.List.{List, [], _∷_, map}
 use Prim.Native.Nat.{ℕ, zero, suc, _-_, _*_, _^_, _≤_, _<_}
 use native.Mathlib.Omega.{arith}
-use lib.{Dec.ltb, Dec.lit≤, Ieee.binary64, IntN.pos, IntN.negsuc, ListN.length, ListN.getD, Pow.pow-pos, Signed.mag}
+use lib.{Dec.ltb, Dec.lit≤, Ieee.binary64, IntN.pos, IntN.negsuc, ListN.length, Pow.pow-pos, Signed.mag}
 use lib.Ieee.Bits.{ofBits-fits, is-true}
 use borrow.Author.Tests.{ltb-true, ltb-false}
 use Rattle.octets.specs.{Choice.either, Bytes.IsBytes, Number.littleAt, Number.bigAt, Number.isThere, Signed.signedOf}
@@ -12,9 +12,11 @@ use Rattle.octets.proofs.Widths.{power-pos, half-twice, little-below, big-below
 use Rattle.record.specs.declared.Body.{Body}
 use Rattle.record.specs.{Record.commandIn, Record.bodyIn, Says.isNamed}
 use Rattle.record.proofs.Typed.{TypedBody, Typed}
-use Rattle.layout.specs.Image.{Stretch, conLies, conRspLies, statusRspLies, packetLies, detLies, attPrpLies, ulDataLies, bodyLies, messageLies, messageImage}
-use Rattle.layout.specs.Taken.{markPlaces, numberAt, highAt, areMarks, conAt, conRspAt, statusRspAt, packetAt, detAt, attPrpAt, ulDataAt, bodiesAt, bodyAt, messageAt}
-use Rattle.layout.proofs.{Taking.past, Lying.takenIn, Lying.Fit, Lying.AllFit, Back.named-own, Back.message-back, Others.by-command}
+use Rattle.record.proofs.Commands.{Command, command, Past.past}
+use Rattle.record.proofs.Commands.Command.{con, con-rsp, status-rsp, det, det-rsp, att-prp, det-prp, ul-data, dl-data-que, bare}
+use Rattle.layout.specs.Image.{Stretch, conLies, conRspLies, statusRspLies, packetLies, detLies, attPrpLies, ulDataLies, dlDataQueLies, bodyLies, messageLies, messageImage}
+use Rattle.layout.specs.Taken.{marksOf, numberAt, highAt, areMarks, conAt, conRspAt, statusRspAt, packetAt, detAt, attPrpAt, ulDataAt, dlDataQueAt, wholeAt, bodyAt, messageAt}
+use Rattle.layout.proofs.{Lying.takenIn, Lying.Fit, Lying.AllFit, Back.named-own, Back.message-back}
 
 -- w bits hold at most twice what w - 1 hold
 twice-most : (w : ℕ) → 2 ^ w ≤ 2 ^ (w - 1) * 2
@@ -59,29 +61,29 @@ module _ (d : List ℕ) (bytes : IsBytes d) where
   abbrev Held : Body → Type 0
   Held b = (commandIn b < 256 ^ 1) × AllFit (bodyLies b)
 
-  body-held : (c : ℕ) → c < 256 ^ 1 → Held (bodyIn (bodiesAt d) c c)
-  unfolding bodyIn bodyLies conLies conRspLies statusRspLies packetLies detLies attPrpLies ulDataLies conAt conRspAt statusRspAt packetAt attPrpAt ulDataAt
-  body-held = by-command (λ c. c < 256 ^ 1 → Held (bodyIn (bodiesAt d) c c))
-      (λ h. (h, all-fit (conLies (conAt d))))
-      (λ h. (h, all-fit (conRspLies (conRspAt d))))
-      (λ h. (h, all-fit (statusRspLies (statusRspAt d))))
-      (λ h. (h, all-fit (detLies (detAt d))))
-      (λ h. (h, all-fit (Stretch.high 4 16 0 ∷ [])))
-      (λ h. (h, all-fit (attPrpLies (attPrpAt d))))
-      (λ h. (h, all-fit (Stretch.number 8 16 0 ∷ [])))
-      (λ h. (h, all-fit (ulDataLies (ulDataAt d))))
-      (λ c l h. subst Held (past (bodiesAt d) c c l) (h, tt))
+  body-held : {c : ℕ} → Command c → c < 256 ^ 1 → Held (wholeAt d c)
+  unfolding bodyIn bodyLies conLies conRspLies statusRspLies packetLies detLies attPrpLies ulDataLies dlDataQueLies conAt conRspAt statusRspAt packetAt attPrpAt ulDataAt dlDataQueAt
+  body-held con h = (h, all-fit (conLies (conAt d)))
+  body-held con-rsp h = (h, all-fit (conRspLies (conRspAt d)))
+  body-held status-rsp h = (h, all-fit (statusRspLies (statusRspAt d)))
+  body-held det h = (h, all-fit (detLies (detAt d)))
+  body-held det-rsp h = (h, all-fit (Stretch.high 4 16 0 ∷ []))
+  body-held att-prp h = (h, all-fit (attPrpLies (attPrpAt d)))
+  body-held det-prp h = (h, all-fit (Stretch.number 8 16 0 ∷ []))
+  body-held ul-data h = (h, all-fit (ulDataLies (ulDataAt d)))
+  body-held dl-data-que h = (h, all-fit (dlDataQueLies (dlDataQueAt d)))
+  body-held (bare (past i) e) h = rw e (h, tt)
 
-  marked-held : (t : Bool) (c : ℕ) → c < 256 ^ 1 → Held (either t (λ _. bodyIn (bodiesAt d) c c) (λ _. Body.Bare c))
+  marked-held : (t : Bool) (c : ℕ) → c < 256 ^ 1 → Held (either t (λ _. wholeAt d c) (λ _. Body.Bare c))
   unfolding bodyLies
-  marked-held true c h = body-held c h
+  marked-held true c h = body-held (command c) h
   marked-held false c h = (h, tt)
 
   pub taken-widths : AllFit (messageLies (messageAt d))
   unfolding messageAt bodyAt
   taken-widths =
       let c = numberAt d 1 8 in
-      let b = marked-held (areMarks d (getD markPlaces c [])) c (number-below 1 8) in
+      let b = marked-held (areMarks d (marksOf c)) c (number-below 1 8) in
       (signed-small 64 (numberAt d 8 0), (b .0, b .1))
 
 -- the widths of the numbers that stand for bytes
@@ -96,6 +98,7 @@ body-typed (Body.DetRsp sign) f = f .0
 body-typed (Body.AttPrp x) f = record { high = f .1 .0; low = f .1 .1 .0 }
 body-typed (Body.DetPrp eui) f = tt
 body-typed (Body.UlData x) f = record { high = f .1 .1 .1 .1 .1 .1 .0; low = f .1 .1 .1 .1 .1 .1 .1 .0 }
+body-typed (Body.DlDataQue x) f = tt
 body-typed (Body.Bare c) f = tt
 
 module _ (d : List ℕ) (bytes : IsBytes d) where

@@ -4,10 +4,11 @@ use mathlib.Core.{Path._≡_, Path.ap, Bool.Bool, Bool.false, List.List, List.ma
 use Prim.Native.Nat.{ℕ, _+_}
 use lib.{IntN.ℤ, IntN.pos, Ieee.Float, Ieee.nan, ListN.getD}
 use Rattle.field.specs.declared.Position.{Position}
-use Rattle.message.specs.declared.MaybeVersion.{MaybeVersion}
+use Rattle.message.specs.declared.{MaybeVersion.MaybeVersion, MaybeMark.MaybeMark}
 use Rattle.record.specs.declared.{Sixteen.Sixteen, Con.Con, ConRsp.ConRsp, StatusRsp.StatusRsp, Packet.Packet, Det.Det, AttPrp.AttPrp, UlData.UlData}
-use Rattle.layout.specs.Image.{Stretch, conLies, conRspLies, statusRspLies, packetLies, detLies, attPrpLies, ulDataLies}
-use Rattle.layout.specs.Taken.{conAt, conRspAt, statusRspAt, packetAt, detAt, attPrpAt, ulDataAt}
+use Rattle.record.specs.declared.DlDataQue.{DlDataQue}
+use Rattle.layout.specs.Image.{Stretch, conLies, conRspLies, statusRspLies, packetLies, detLies, attPrpLies, ulDataLies, dlDataQueLies}
+use Rattle.layout.specs.Taken.{conAt, conRspAt, statusRspAt, packetAt, detAt, attPrpAt, ulDataAt, dlDataQueAt}
 use Rattle.layout.proofs.Lying.{takenIn}
 
 -- the value of a stretch, by its sort
@@ -63,6 +64,9 @@ module _ (ss : List Stretch) where
 
   abbrev version : ℕ → MaybeVersion
   version k = record { here = flag (k + 3); major = num k; minor = num (k + 1); patch = num (k + 2) }
+
+  abbrev maybeMark : ℕ → MaybeMark
+  maybeMark k = record { here = flag k; value = flag (k + 1) }
 
   abbrev con : Con
   con = record {
@@ -121,6 +125,20 @@ module _ (ss : List Stretch) where
   abbrev ulData : UlData
   ulData = record { packet = packet; «user_len» = num 12; format = num 13; «dl_open» = flag 14; «response_exp» = flag 15; «dl_ack» = flag 16 }
 
+  abbrev dlDataQue : DlDataQue
+  dlDataQue = record {
+    «ep_eui» = num 0;
+    «que_id» = num 1;
+    «cnt_depend» = flag 5;
+    entries = num 3;
+    format = num 4;
+    prio = real 2;
+    «response_exp» = maybeMark 6;
+    «response_prio» = maybeMark 8;
+    «dl_wind_req» = maybeMark 10;
+    «exp_only» = maybeMark 12;
+  }
+
 module _ (d : List ℕ) where
   pub con-of : (x y : Con) → map (takenIn d) (conLies x) ≡ conLies y → conAt d ≡ y
   unfolding conLies conAt
@@ -145,3 +163,7 @@ module _ (d : List ℕ) where
   pub ul-data-of : (x y : UlData) → map (takenIn d) (ulDataLies x) ≡ ulDataLies y → ulDataAt d ≡ y
   unfolding ulDataLies packetLies ulDataAt packetAt
   ul-data-of x y e = ap ulData e
+
+  pub dl-data-que-of : (x y : DlDataQue) → map (takenIn d) (dlDataQueLies x) ≡ dlDataQueLies y → dlDataQueAt d ≡ y
+  unfolding dlDataQueLies dlDataQueAt
+  dl-data-que-of x y e = ap dlDataQue e

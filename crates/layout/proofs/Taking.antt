@@ -1,17 +1,20 @@
 -- What is taken from where it lies, each law in the shape of a need of the code. Assumes nothing.
 use mathlib.Core.Path.{_≡_, refl, sym, ap, _∙_}
-use mathlib.Core.Bool.{Bool, true, false, _&&_, and-true, and-assoc}
+use mathlib.Core.Bool.{Bool, true, false, not, _&&_, and-true, and-assoc}
 use mathlib.Core.List.{List, [], _∷_, _++_}
 use Prim.Native.Nat.{ℕ, zero, suc, _+_, _-_, _≤_, _<_}
 use native.Mathlib.Nat.{add-zero, sub-zero}
 use native.Mathlib.Omega.{arith}
-use lib.{Dec.ltb, IntN.ℤ, ListN.length, ListN.getD, ListN.List·getD-eq-default}
+use lib.{Dec.eqb, Dec.ltb, ListN.length, ListN.List·getD-eq-default}
 use mir.Syntax.{w64}
 use mir.Val.{SFits, toZ, ofZ}
 use mir.ValLaws.{toZ-ofZ}
+use borrow.Author.Tests.{ne-eqb, not-true, not-false}
+use Rattle.names.specs.Names.{downlink}
 use Rattle.record.specs.declared.{Body.Body, Message.Message}
 use Rattle.record.specs.Record.{bodyIn}
-use Rattle.layout.specs.Taken.{places, markPlaces, numberAt, highAt, signedAt, areMarks, bodiesAt, bodyAt, messageAt}
+use Rattle.layout.specs.declared.taken.Head.{Head}
+use Rattle.layout.specs.Taken.{places, markPlaces, marksOf, numberAt, signedAt, areMarks, bodiesAt, wholeAt, bodyAt, messageAt}
 
 -- ok says that those before the i-th of n bytes are marks
 module _ (d : List ℕ) (at n : ℕ) where
@@ -51,50 +54,44 @@ two-runs d [] ys = refl
 two-runs d (p ∷ xs) ys = and-assoc (ltb (numberAt d 1 p) 2) (areMarks d xs) (areMarks d ys) ∙ ap (λ (t : Bool). ltb (numberAt d 1 p) 2 && t) (two-runs d xs ys)
 
 module _ (d : List ℕ) (c : ℕ) where
-  pub marked-at : (t : Bool) (k : ℕ) → c ≡ k → t ≡ areMarks d (getD markPlaces k []) → t ≡ areMarks d (getD markPlaces c [])
+  pub marked-at : (t : Bool) (k : ℕ) → c ≡ k → t ≡ areMarks d (marksOf k) → t ≡ areMarks d (marksOf c)
   marked-at t k e f = rw e f
 
-  pub marked-twice : (t u : Bool) → c ≡ 7 → t ≡ areMarks d (places 85 2) → u ≡ areMarks d (places 90 3) → (t && u) ≡ areMarks d (getD markPlaces c [])
+  pub marked-twice : (t u : Bool) → c ≡ 7 → t ≡ areMarks d (places 85 2) → u ≡ areMarks d (places 90 3) → (t && u) ≡ areMarks d (marksOf c)
   marked-twice t u e f g = rw (e, f, g) (two-runs d (places 85 2) (places 90 3))
 
-  pub marked-none : (k : ℕ) → c ≡ k → getD markPlaces k [] ≡ [] → true ≡ areMarks d (getD markPlaces c [])
+  pub marked-none : (k : ℕ) → c ≡ k → marksOf k ≡ [] → true ≡ areMarks d (marksOf c)
   unfolding areMarks
   marked-none k e f = rw (e, f)
 
-pub marked-past : (d : List ℕ) (c : ℕ) → 8 ≤ c → true ≡ areMarks d (getD markPlaces c [])
+pub marked-past : (d : List ℕ) (c : ℕ) → 8 ≤ c → eqb c downlink ≡ false → true ≡ areMarks d (marksOf c)
 unfolding areMarks
-marked-past d c h = ap (areMarks d) (sym (List·getD-eq-default markPlaces [] h))
+marked-past d c h e = rw e (ap (areMarks d) (sym (List·getD-eq-default markPlaces [] h)))
 
-pub ruleset marked = (marked-at, marked-twice, marked-none, marked-past, past-seven)
+pub ruleset marked = (marked-at, marked-twice, marked-none, marked-past, past-seven, ne-eqb)
 
-pub past : (bs : List Body) (i c : ℕ) → length bs ≤ i → Body.Bare c ≡ bodyIn bs i c
+past : (bs : List Body) (i c : ℕ) → length bs ≤ i → Body.Bare c ≡ bodyIn bs i c
 unfolding bodyIn
 past [] i c h = refl
 past (b ∷ bs) zero c h = absurd (omega arith)
 past (b ∷ bs) (suc i) c h = past bs i c (omega arith)
 
-module _ (d : List ℕ) (c x : ℕ) where
-  pub body-sign : c ≡ 4 → x ≡ highAt d 4 16 → Body.DetRsp x ≡ bodyIn (bodiesAt d) c c
-  unfolding bodyIn
-  body-sign e f = rw (e, f)
+module _ (d : List ℕ) (c : ℕ) where
+  pub body-by : (b : Body) (k : ℕ) → c ≡ k → b ≡ wholeAt d k → b ≡ wholeAt d c
+  body-by b k e f = rw e f
 
-  pub body-eui : c ≡ 6 → x ≡ numberAt d 8 16 → Body.DetPrp x ≡ bodyIn (bodiesAt d) c c
-  unfolding bodyIn
-  body-eui e f = rw (e, f)
+  pub body-bare : 8 ≤ c → eqb c downlink ≡ false → Body.Bare c ≡ wholeAt d c
+  body-bare h e = rw e (past (bodiesAt d) c c h)
 
-pub body-bare : (d : List ℕ) (c : ℕ) → 8 ≤ c → Body.Bare c ≡ bodyIn (bodiesAt d) c c
-body-bare d c h = past (bodiesAt d) c c h
-
-pub ruleset bodies = (body-sign, body-eui, body-bare, past-seven)
-
--- the record
-module _ (d : List ℕ) (z : ℤ) (c : ℕ) (t : Bool) (f : SFits w64 z) (e : z ≡ signedAt d 8 0) (g : c ≡ numberAt d 1 8) (h : t ≡ areMarks d (getD markPlaces c [])) where
-  pub message-whole : (b : Body) → t ≡ true → b ≡ bodyIn (bodiesAt d) c c → _≡_ {A = Message} (record { «op_id» = toZ w64 (ofZ w64 z); body = b }) (messageAt d)
+-- the record of a head and a body, where the marks are 0 or 1 and where they are not
+module _ (d : List ℕ) (h : Head) (e : h .«op_id» ≡ signedAt d 8 0) (g : h .command ≡ numberAt d 1 8) (m : h .marked ≡ areMarks d (marksOf (h .command)))
+    (f : SFits w64 (h .«op_id»)) (r : Message) (b : Body) (q : r ≡ record { «op_id» = toZ w64 (ofZ w64 (h .«op_id»)); body = b }) where
+  pub message-whole : not (h .marked) ≡ false → b ≡ wholeAt d (h .command) → r ≡ messageAt d
   unfolding messageAt bodyAt
-  message-whole b y q = rw (toZ-ofZ w64 z f, e, ← g, ← h, y, q)
+  message-whole y i = rw (q, toZ-ofZ w64 (h .«op_id») f, e, ← g, ← m, not-false (h .marked) y, i)
 
-  pub message-marred : t ≡ false → _≡_ {A = Message} (record { «op_id» = toZ w64 (ofZ w64 z); body = Body.Bare c }) (messageAt d)
+  pub message-marred : not (h .marked) ≡ true → b ≡ Body.Bare (h .command) → r ≡ messageAt d
   unfolding messageAt bodyAt
-  message-marred y = rw (toZ-ofZ w64 z f, e, ← g, ← h, y)
+  message-marred y i = rw (q, toZ-ofZ w64 (h .«op_id») f, e, ← g, ← m, not-true (h .marked) y, i)
 
-pub ruleset messages = (message-whole, message-marred)
+pub ruleset messages = (message-whole, message-marred, body-by, body-bare, past-seven, ne-eqb)

@@ -11,7 +11,7 @@ use denote.Enum.Declared.{row as choiceRow}
 use Rattle.field.specs.declared.Position.{Position}
 use Rattle.message.specs.declared.{MaybeWord.MaybeWord, MaybeId.MaybeId, MaybeReal.MaybeReal, MaybePosition.MaybePosition, MaybeVersion.MaybeVersion}
 use Rattle.record.specs.declared.{Sixteen.Sixteen, Con.Con, ConRsp.ConRsp, StatusRsp.StatusRsp, Packet.Packet, Det.Det, AttPrp.AttPrp, UlData.UlData}
-use Rattle.record.specs.declared.{Body.Body, Message.Message}
+use Rattle.record.specs.declared.{DlDataQue.DlDataQue, Body.Body, Message.Message}
 use Rattle.record.specs.{Record.commandIn, Says.isNamed}
 use Rattle.message.proofs.MaybeWord as the-word
 use Rattle.message.proofs.MaybeId as the-id
@@ -26,9 +26,10 @@ use Rattle.record.proofs.Packet as the-packet
 use Rattle.record.proofs.Det as the-det
 use Rattle.record.proofs.AttPrp as the-att-prp
 use Rattle.record.proofs.UlData as the-ul-data
+use Rattle.record.proofs.DlDataQue as the-dl-data-que
 use Rattle.record.proofs.Body as the-body
 use Rattle.record.proofs.Message as the-message
-use Rattle.layout.specs.Image.{Stretch, conLies, conRspLies, statusRspLies, packetLies, detLies, attPrpLies, ulDataLies, bodyLies, messageLies, messageSize, messageImage}
+use Rattle.layout.specs.Image.{Stretch, conLies, conRspLies, statusRspLies, packetLies, detLies, attPrpLies, ulDataLies, dlDataQueLies, bodyLies, messageLies, messageSize, messageImage}
 use Rattle.layout.specs.Taken.{messageAt}
 use Rattle.layout.proofs.{Lying.AllFit, Back.named-own, Back.message-back}
 
@@ -127,6 +128,13 @@ of-ul-data x vs g =
     let f = g .1 .1 in
     joined (packetLies (x .packet)) _ (of-packet (x .packet) _ (f .0)) (f .1 .0 .1, (f .1 .1 .0 .1, (tt, (tt, (tt, tt)))))
 
+of-dl-data-que : (x : DlDataQue) (vs : List Val) → Is (row the-dl-data-que.the-type) x vs → AllFit (dlDataQueLies x)
+unfolding dlDataQueLies
+of-dl-data-que x vs g =
+    let f = g .1 .1 in
+    let r = f .1 .1 .1 in
+    (f .0 .1, (f .1 .0 .1, (r .1 .1 .0 .1, (r .0 .1, (r .1 .0 .1, (tt, (tt, (tt, (tt, (tt, (tt, (tt, (tt, (tt, tt))))))))))))))
+
 -- the command and the fields behind it
 body-widths : (b : Body) (vs : List Val) → Is (choiceRow the-body.the-type) b vs → (commandIn b < 256 ^ 1) × AllFit (bodyLies b)
 unfolding bodyLies
@@ -138,12 +146,13 @@ body-widths (Body.DetRsp sign) vs g = (lit< tt, (g .1 .1 .1 .1 .0 .1, tt))
 body-widths (Body.AttPrp x) vs g = (lit< tt, of-att-prp x _ (g .1 .1 .1 .1 .0))
 body-widths (Body.DetPrp eui) vs g = (lit< tt, (g .1 .1 .1 .1 .0 .1, tt))
 body-widths (Body.UlData x) vs g = (lit< tt, of-ul-data x _ (g .1 .1 .1 .1 .0))
+body-widths (Body.DlDataQue x) vs g = (lit< tt, of-dl-data-que x _ (g .1 .1 .1 .1 .0))
 body-widths (Body.Bare c) vs g = (g .1 .1 .1 .1 .0 .1, tt)
 
 pub widths : (m : Message) (vs : List Val) → Is (row the-message.the-type) m vs → AllFit (messageLies m)
 widths m vs g = let b = body-widths (m .body) _ (g .1 .1 .1 .0) in (g .1 .1 .0 .1, (b .0, b .1))
 
--- a record that the code has, under one of the 21 names, is that of its image
+-- a record that the code has, under one of the 24 names, is that of its image
 pub named-back : (m : Message) (vs : List Val) → Is (row the-message.the-type) m vs → isNamed (m .body) ≡ true → messageAt (messageImage m) ≡ m
 named-back m vs g n = message-back m (record { own = named-own (m .body) n; widths = widths m vs g })
 

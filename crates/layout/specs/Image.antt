@@ -6,9 +6,9 @@ use lib.{IntN.ℤ, Ieee.Float, Ieee.binary64, Ieee.toBits, ListN.replicate}
 use Rattle.octets.specs.Bytes.{bigBytes, littleBytes, putAt, markByte}
 use Rattle.octets.specs.Signed.{bitsOf}
 use Rattle.field.specs.declared.Position.{Position}
-use Rattle.message.specs.declared.MaybeVersion.{MaybeVersion}
+use Rattle.message.specs.declared.{MaybeVersion.MaybeVersion, MaybeMark.MaybeMark}
 use Rattle.record.specs.declared.{Sixteen.Sixteen, Con.Con, ConRsp.ConRsp, StatusRsp.StatusRsp, Packet.Packet, Det.Det, AttPrp.AttPrp, UlData.UlData}
-use Rattle.record.specs.declared.{Body.Body, Message.Message}
+use Rattle.record.specs.declared.{DlDataQue.DlDataQue, Body.Body, Message.Message}
 use Rattle.record.specs.Record.{commandIn}
 
 -- a value at its place: a number of so many bytes, little or big endian; a signed number of so many; a real; a mark
@@ -126,6 +126,24 @@ ulDataLies x =
     Stretch.flag 92 (x .«dl_ack») ∷
     [])
 
+-- a mark that may be absent: whether it is there, and the mark
+abbrev pub maybeLies : ℕ → MaybeMark → List Stretch → List Stretch
+maybeLies p w rest = Stretch.flag p (w .here) ∷ (Stretch.flag (p + 1) (w .value) ∷ rest)
+
+-- dlDataQue; its counters, lengths and data stand in the lent bytes
+unfoldable pub dlDataQueLies : DlDataQue → List Stretch
+dlDataQueLies x =
+    Stretch.number 8 16 (x .«ep_eui») ∷
+    Stretch.number 8 24 (x .«que_id») ∷
+    Stretch.real 32 (x .prio) ∷
+    Stretch.number 1 40 (x .entries) ∷
+    Stretch.number 1 41 (x .format) ∷
+    Stretch.flag 42 (x .«cnt_depend») ∷
+    maybeLies 43 (x .«response_exp»)
+    (maybeLies 45 (x .«response_prio»)
+    (maybeLies 47 (x .«dl_wind_req»)
+    (maybeLies 49 (x .«exp_only») [])))
+
 unfoldable pub bodyLies : Body → List Stretch
 bodyLies (Body.Con x) = conLies x
 bodyLies (Body.ConRsp x) = conRspLies x
@@ -135,6 +153,7 @@ bodyLies (Body.DetRsp sign) = Stretch.high 4 16 sign ∷ []
 bodyLies (Body.AttPrp x) = attPrpLies x
 bodyLies (Body.DetPrp eui) = Stretch.number 8 16 eui ∷ []
 bodyLies (Body.UlData x) = ulDataLies x
+bodyLies (Body.DlDataQue x) = dlDataQueLies x
 bodyLies (Body.Bare c) = []
 
 -- each command has these

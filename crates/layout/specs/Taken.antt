@@ -5,9 +5,10 @@ use mathlib.Core.List.{List, [], _∷_, _++_}
 use lib.{Dec.eqb, Dec.ltb, IntN.ℤ, Ieee.Float, Ieee.binary64, Ieee.ofBits, ListN.getD}
 use Rattle.octets.specs.{Choice.either, Number.littleAt, Number.bigAt, Number.ifThere, Signed.signedOf}
 use Rattle.field.specs.declared.Position.{Position}
-use Rattle.message.specs.declared.{MaybeVersion.MaybeVersion, Signal.Signal}
+use Rattle.names.specs.Names.{ifDownlink}
+use Rattle.message.specs.declared.{MaybeVersion.MaybeVersion, MaybeMark.MaybeMark, Signal.Signal}
 use Rattle.record.specs.declared.{Sixteen.Sixteen, Con.Con, ConRsp.ConRsp, StatusRsp.StatusRsp, Packet.Packet, Det.Det, AttPrp.AttPrp, UlData.UlData}
-use Rattle.record.specs.declared.{Body.Body, Message.Message}
+use Rattle.record.specs.declared.{DlDataQue.DlDataQue, Body.Body, Message.Message}
 use Rattle.record.specs.Record.{bodyIn}
 
 -- the places from p on
@@ -15,9 +16,12 @@ abbrev pub places : ℕ → ℕ → List ℕ
 places p zero = []
 places p (suc n) = p ∷ places (p + 1) n
 
--- where each command's marks lie, in the order of `commands`
+-- where each command's marks lie, document 01's in the order of `commands`
 abbrev pub markPlaces : List (List ℕ)
 markPlaces = places 86 5 ∷ places 46 2 ∷ places 93 5 ∷ places 85 2 ∷ [] ∷ places 46 5 ∷ [] ∷ (places 85 2 ++ places 90 3) ∷ []
+
+abbrev pub marksOf : ℕ → List ℕ
+marksOf c = ifDownlink c (places 42 9) (getD markPlaces c [])
 
 module _ (d : List ℕ) where
   -- a number of n bytes, little or big endian; 0 where they are not all there
@@ -109,7 +113,24 @@ module _ (d : List ℕ) where
   unfoldable pub ulDataAt : UlData
   ulDataAt = record { packet = packetAt; «user_len» = numberAt 1 88; format = numberAt 1 89; «dl_open» = flagAt 90; «response_exp» = flagAt 91; «dl_ack» = flagAt 92 }
 
-  -- in the order of `commands`
+  abbrev pub maybeMarkAt : ℕ → MaybeMark
+  maybeMarkAt p = record { here = flagAt p; value = flagAt (p + 1) }
+
+  unfoldable pub dlDataQueAt : DlDataQue
+  dlDataQueAt = record {
+    «ep_eui» = numberAt 8 16;
+    «que_id» = numberAt 8 24;
+    «cnt_depend» = flagAt 42;
+    entries = numberAt 1 40;
+    format = numberAt 1 41;
+    prio = realAt 32;
+    «response_exp» = maybeMarkAt 43;
+    «response_prio» = maybeMarkAt 45;
+    «dl_wind_req» = maybeMarkAt 47;
+    «exp_only» = maybeMarkAt 49;
+  }
+
+  -- document 01's, in the order of `commands`
   abbrev pub bodiesAt : List Body
   bodiesAt =
       Body.Con conAt ∷
@@ -122,9 +143,12 @@ module _ (d : List ℕ) where
       Body.UlData ulDataAt ∷
       []
 
+  abbrev pub wholeAt : ℕ → Body
+  wholeAt c = ifDownlink c (Body.DlDataQue dlDataQueAt) (bodyIn bodiesAt c c)
+
   -- a mark that is neither 0 nor 1 makes it a record without its command's fields, which is refused with 15 wherever a record is judged
   unfoldable pub bodyAt : ℕ → Body
-  bodyAt c = either (areMarks (getD markPlaces c [])) (λ _. bodyIn bodiesAt c c) (λ _. Body.Bare c)
+  bodyAt c = either (areMarks (marksOf c)) (λ _. wholeAt c) (λ _. Body.Bare c)
 
 unfoldable pub messageAt : List ℕ → Message
 messageAt d = record { «op_id» = signedAt d 8 0; body = bodyAt d (numberAt d 1 8) }

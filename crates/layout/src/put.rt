@@ -2,10 +2,10 @@
 use crate::leaf;
 use record::Con;
 use record::StatusRsp;
-ghost use mathlib.Core.Path.{_≡_};
+ghost use mathlib.Core.{Path._≡_, List.[]};
 ghost use Prim.Native.Nat.{_+_, _≤_};
 ghost use lib.ListN.{take};
-ghost use Rattle.layout.specs.Image.{Stretch, sixteenLies, versionLies, conLies, conRspLies, statusRspLies, packetLies, detLies, attPrpLies, ulDataLies, lay, laid};
+ghost use Rattle.layout.specs.Image.{Stretch, sixteenLies, versionLies, conLies, conRspLies, statusRspLies, packetLies, detLies, attPrpLies, ulDataLies, maybeLies, dlDataQueLies, lay, laid};
 
 pub fn put_small(d: &mut [u8], at: usize, x: u8)
     ensures { λ _. ⌜ now (d .exit) ≡ lay (Stretch.number 1 at x) (now (d .entry)) ⌝ }
@@ -94,6 +94,15 @@ fn put_marks(d: &mut [u8], at: usize, x: bool, y: bool, z: bool)
     put_mark(d, at, x);
     put_mark(d, at + 1, y);
     put_mark(d, at + 2, z);
+}
+
+// Whether a mark is there, and the mark.
+fn put_maybe(d: &mut [u8], at: usize, w: message::MaybeMark)
+    requires { ⌜ at ≤ 102 ⌝ }
+    ensures { λ _. ⌜ now (d .exit) ≡ laid (maybeLies at w []) (now (d .entry)) ⌝ }
+{
+    put_mark(d, at, w.here);
+    put_mark(d, at + 1, w.value);
 }
 
 fn put_version(d: &mut [u8], at: usize, v: message::MaybeVersion)
@@ -213,4 +222,22 @@ pub fn put_ul_data(d: &mut [u8], x: record::UlData)
     put_small(d, 88, x.user_len);
     put_small(d, 89, x.format);
     put_marks(d, 90, x.dl_open, x.response_exp, x.dl_ack);
+}
+
+pub fn put_dl_data_que(d: &mut [u8], x: record::DlDataQue)
+    ensures { λ _. ⌜ now (d .exit) ≡ laid (dlDataQueLies x) (now (d .entry)) ⌝ }
+{
+    let response_exp = x.response_exp;
+    let response_prio = x.response_prio;
+    let dl_wind_req = x.dl_wind_req;
+    let exp_only = x.exp_only;
+    put_words(d, 16, x.ep_eui, x.que_id);
+    put_real(d, 32, x.prio);
+    put_small(d, 40, x.entries);
+    put_small(d, 41, x.format);
+    put_mark(d, 42, x.cnt_depend);
+    put_maybe(d, 43, response_exp);
+    put_maybe(d, 45, response_prio);
+    put_maybe(d, 47, dl_wind_req);
+    put_maybe(d, 49, exp_only);
 }

@@ -2,6 +2,7 @@
 use crate::leaf::real_from;
 use field::Position;
 use message::MaybeId;
+use message::MaybeMark;
 use message::MaybePosition;
 use message::MaybeReal;
 use message::MaybeVersion;
@@ -9,21 +10,19 @@ use message::MaybeWord;
 use message::Signal;
 use names::numbers;
 use record::AttPrp;
-use record::Body;
 use record::Con;
 use record::ConRsp;
 use record::Det;
+use record::DlDataQue;
 use record::Packet;
 use record::Sixteen;
 use record::StatusRsp;
 use record::UlData;
-ghost use mathlib.Core.{Path._≡_, List.[]};
+ghost use mathlib.Core.Path.{_≡_};
 ghost use Prim.Native.Nat.{_+_, _≤_};
-ghost use lib.ListN.{getD};
-ghost use Rattle.record.specs.Record.{bodyIn};
-ghost use Rattle.layout.specs.Taken.{places, markPlaces, numberAt, highAt, signedAt, realAt, flagAt, areMarks, sixteenAt, positionAt, versionAt, conAt, conRspAt, statusRspAt, signalAt, packetAt, detAt, attPrpAt, ulDataAt, bodiesAt};
+ghost use Rattle.layout.specs.Taken.{places, marksOf, numberAt, highAt, signedAt, realAt, flagAt, areMarks, sixteenAt, positionAt, versionAt, conAt, conRspAt, statusRspAt, signalAt, packetAt, detAt, attPrpAt, ulDataAt, maybeMarkAt, dlDataQueAt};
 
-pub fn byte(d: &[u8], at: usize) -> u8
+fn byte(d: &[u8], at: usize) -> u8
     ensures { λ r. ⌜ r ≡ numberAt (now (d .entry)) 1 at ⌝ }
 {
     octets::little_at(d, at, 1) as u8
@@ -47,19 +46,19 @@ fn count(d: &[u8], at: usize) -> u32
     octets::little_at(d, at, 4) as u32
 }
 
-fn word(d: &[u8], at: usize) -> u64
+pub fn word(d: &[u8], at: usize) -> u64
     ensures { λ r. ⌜ r ≡ numberAt (now (d .entry)) 8 at ⌝ }
 {
     octets::little_at(d, at, 8)
 }
 
-fn four(d: &[u8], at: usize) -> u32
+pub fn four(d: &[u8], at: usize) -> u32
     ensures { λ r. ⌜ r ≡ highAt (now (d .entry)) 4 at ⌝ }
 {
     octets::big_at(d, at, 4) as u32
 }
 
-pub fn id(d: &[u8], at: usize) -> i64
+fn id(d: &[u8], at: usize) -> i64
     ensures { λ r. ⌜ r ≡ signedAt (now (d .entry)) 8 at ⌝ }
 {
     octets::signed_of(word(d, at))
@@ -109,7 +108,7 @@ fn version(d: &[u8], at: usize) -> MaybeVersion
     }
 }
 
-fn con_in(d: &[u8]) -> Con
+pub fn con_in(d: &[u8]) -> Con
     ensures { λ r. ⌜ r ≡ conAt (now (d .entry)) ⌝ }
 {
     Con {
@@ -132,7 +131,7 @@ fn con_in(d: &[u8]) -> Con
     }
 }
 
-fn con_rsp_in(d: &[u8]) -> ConRsp
+pub fn con_rsp_in(d: &[u8]) -> ConRsp
     ensures { λ r. ⌜ r ≡ conRspAt (now (d .entry)) ⌝ }
 {
     ConRsp {
@@ -143,7 +142,7 @@ fn con_rsp_in(d: &[u8]) -> ConRsp
     }
 }
 
-fn status_rsp_in(d: &[u8]) -> StatusRsp
+pub fn status_rsp_in(d: &[u8]) -> StatusRsp
     ensures { λ r. ⌜ r ≡ statusRspAt (now (d .entry)) ⌝ }
 {
     StatusRsp {
@@ -202,7 +201,7 @@ fn packet_in(d: &[u8]) -> Packet
     }
 }
 
-fn det_in(d: &[u8]) -> Det
+pub fn det_in(d: &[u8]) -> Det
     ensures { λ r. ⌜ r ≡ detAt (now (d .entry)) ⌝ }
 {
     Det {
@@ -211,7 +210,7 @@ fn det_in(d: &[u8]) -> Det
     }
 }
 
-fn att_prp_in(d: &[u8]) -> AttPrp
+pub fn att_prp_in(d: &[u8]) -> AttPrp
     ensures { λ r. ⌜ r ≡ attPrpAt (now (d .entry)) ⌝ }
 {
     AttPrp {
@@ -227,7 +226,7 @@ fn att_prp_in(d: &[u8]) -> AttPrp
     }
 }
 
-fn ul_data_in(d: &[u8]) -> UlData
+pub fn ul_data_in(d: &[u8]) -> UlData
     ensures { λ r. ⌜ r ≡ ulDataAt (now (d .entry)) ⌝ }
 {
     UlData {
@@ -237,6 +236,33 @@ fn ul_data_in(d: &[u8]) -> UlData
         dl_open: is_set(d, 90),
         response_exp: is_set(d, 91),
         dl_ack: is_set(d, 92),
+    }
+}
+
+fn maybe_mark(d: &[u8], at: usize) -> MaybeMark
+    requires { ⌜ at ≤ 102 ⌝ }
+    ensures { λ r. ⌜ r ≡ maybeMarkAt (now (d .entry)) at ⌝ }
+{
+    MaybeMark {
+        here: is_set(d, at),
+        value: is_set(d, at + 1),
+    }
+}
+
+pub fn dl_data_que_in(d: &[u8]) -> DlDataQue
+    ensures { λ r. ⌜ r ≡ dlDataQueAt (now (d .entry)) ⌝ }
+{
+    DlDataQue {
+        ep_eui: word(d, 16),
+        que_id: word(d, 24),
+        cnt_depend: is_set(d, 42),
+        entries: byte(d, 40),
+        format: byte(d, 41),
+        prio: figure(d, 32),
+        response_exp: maybe_mark(d, 43),
+        response_prio: maybe_mark(d, 45),
+        dl_wind_req: maybe_mark(d, 47),
+        exp_only: maybe_mark(d, 49),
     }
 }
 
@@ -255,8 +281,8 @@ fn are_marks(d: &[u8], at: usize, n: usize) -> bool
 }
 
 // The marks of a command are 0 or 1.
-pub fn is_marked(d: &[u8], c: u8) -> bool
-    ensures { λ r. ⌜ r ≡ areMarks (now (d .entry)) (getD markPlaces c []) ⌝ }
+fn is_marked(d: &[u8], c: u8) -> bool
+    ensures { λ r. ⌜ r ≡ areMarks (now (d .entry)) (marksOf c) ⌝ }
 {
     match c {
         numbers::CON => are_marks(d, 86, 5),
@@ -267,22 +293,27 @@ pub fn is_marked(d: &[u8], c: u8) -> bool
         numbers::ATT_PRP => are_marks(d, 46, 5),
         numbers::DET_PRP => true,
         numbers::UL_DATA => are_marks(d, 85, 2) & are_marks(d, 90, 3),
+        numbers::DL_DATA_QUE => are_marks(d, 42, 9),
         numbers::CON_CMP..=255 => true,
     }
 }
 
-pub fn body_in(d: &[u8], c: u8) -> Body
-    ensures { λ r. ⌜ r ≡ bodyIn (bodiesAt (now (d .entry))) c c ⌝ }
+// What each command has, and whether its marks are 0 or 1.
+pub struct Head {
+    pub op_id: i64,
+    pub command: u8,
+    pub marked: bool,
+}
+
+pub fn head_in(d: &[u8]) -> Head
+    ensures id { λ r. ⌜ r .«op_id» ≡ signedAt (now (d .entry)) 8 0 ⌝ }
+    ensures command { λ r. ⌜ r .command ≡ numberAt (now (d .entry)) 1 8 ⌝ }
+    ensures marked { λ r. ⌜ r .marked ≡ areMarks (now (d .entry)) (marksOf (r .command)) ⌝ }
 {
-    match c {
-        numbers::CON => Body::Con(con_in(d)),
-        numbers::CON_RSP => Body::ConRsp(con_rsp_in(d)),
-        numbers::STATUS_RSP => Body::StatusRsp(status_rsp_in(d)),
-        numbers::DET => Body::Det(det_in(d)),
-        numbers::DET_RSP => Body::DetRsp(four(d, 16)),
-        numbers::ATT_PRP => Body::AttPrp(att_prp_in(d)),
-        numbers::DET_PRP => Body::DetPrp(word(d, 16)),
-        numbers::UL_DATA => Body::UlData(ul_data_in(d)),
-        numbers::CON_CMP..=255 => Body::Bare(c),
+    let c = byte(d, 8);
+    Head {
+        op_id: id(d, 0),
+        command: c,
+        marked: is_marked(d, c),
     }
 }

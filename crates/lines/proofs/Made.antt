@@ -59,23 +59,23 @@ few-counted words n = simp length-append (omega (arith, few-digits 20 n))
 
 abbrev areShort : List (List ℕ) → Bool
 areShort [] = true
-areShort (n ∷ ns) = leb (length n) 9 && areShort ns
+areShort (n ∷ ns) = leb (length n) 12 && areShort ns
 
-few-name : (ns : List (List ℕ)) → T (areShort ns) → (c : ℕ) → length (nameAt ns c) ≤ 9
+few-name : (ns : List (List ℕ)) → T (areShort ns) → (c : ℕ) → length (nameAt ns c) ≤ 12
 unfolding nameAt
 few-name [] t c = omega arith
-few-name (n ∷ ns) t zero = leb→le (length n) 9 (both-left (leb (length n) 9) (areShort ns) t)
-few-name (n ∷ ns) t (suc c) = few-name ns (both-right (leb (length n) 9) (areShort ns) t) c
+few-name (n ∷ ns) t zero = leb→le (length n) 12 (both-left (leb (length n) 12) (areShort ns) t)
+few-name (n ∷ ns) t (suc c) = few-name ns (both-right (leb (length n) 12) (areShort ns) t) c
 
-few-command : (c : ℕ) → length (nameAt commands c) ≤ 9
+few-command : (c : ℕ) → length (nameAt commands c) ≤ 12
 unfolding commands
 few-command c = few-name commands tt c
 
-few-outcome : (refusal command : ℕ) (id : ℤ) → length (outcome refusal command id) ≤ 33
+few-outcome : (refusal command : ℕ) (id : ℤ) → length (outcome refusal command id) ≤ 36
 unfolding outcome
 few-outcome refusal command id = go (eqb refusal 0)
   where
-    go : (t : Bool) → length (either t (λ _. (bytes " " ++ (nameAt commands command ++ bytes " ")) ++ (signedDecimal id ++ newline)) (λ _. counted (bytes " refused ") refusal)) ≤ 33
+    go : (t : Bool) → length (either t (λ _. (bytes " " ++ (nameAt commands command ++ bytes " ")) ++ (signedDecimal id ++ newline)) (λ _. counted (bytes " refused ") refusal)) ≤ 36
     go true = simp length-append (omega (arith, few-command command, few-signed id))
     go false = omega (arith, few-counted (bytes " refused ") refusal)
 

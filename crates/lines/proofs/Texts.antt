@@ -56,32 +56,32 @@ none-put o = go (leb (o .next + 0) (length (o .room)))
     go true = sym (ap₂ (λ (r : List ℕ) (n : ℕ). put r n) (put-none (o .room) (o .next)) (add-zero (o .next)))
     go false = refl
 
--- the names, ten places each: the length, the bytes and spaces
+-- the names, thirteen places each: the length, the bytes and spaces
 abbrev rows : List (List ℕ) → List ℕ
 rows [] = []
-rows (n ∷ ns) = (length n ∷ n ++ replicate (9 - length n) 0x20) ++ rows ns
+rows (n ∷ ns) = (length n ∷ n ++ replicate (12 - length n) 0x20) ++ rows ns
 
 abbrev rowAt : ℕ → List ℕ
-rowAt c = take (c * 10 + 1 + getD (rows commands) (c * 10) 0 - (c * 10 + 1)) (drop (c * 10 + 1) (rows commands))
+rowAt c = take (c * 13 + 1 + getD (rows commands) (c * 13) 0 - (c * 13 + 1)) (drop (c * 13 + 1) (rows commands))
 
-module _ (c : ℕ) (h : c < 21) where
+module _ (c : ℕ) (h : c < 24) where
   row-is : rowAt c ≡ nameAt commands c
   unfolding commands nameAt
   row-is =
       same-eq (rowAt c) (nameAt commands c)
-      (sym (is-true (sameBytes (rowAt c) (nameAt commands c)) (ranged (λ k. sameBytes (rowAt k) (nameAt commands k)) 0 21 tt c (omega arith) h)))
+      (sym (is-true (sameBytes (rowAt c) (nameAt commands c)) (ranged (λ k. sameBytes (rowAt k) (nameAt commands k)) 0 24 tt c (omega arith) h)))
 
-  row-within : getD (rows commands) (c * 10) 0 ≤ 9
+  row-within : getD (rows commands) (c * 13) 0 ≤ 12
   unfolding commands
-  row-within = leb→le (getD (rows commands) (c * 10) 0) 9 (ranged (λ k. leb (getD (rows commands) (k * 10) 0) 9) 0 21 tt c (omega arith) h)
+  row-within = leb→le (getD (rows commands) (c * 13) 0) 12 (ranged (λ k. leb (getD (rows commands) (k * 13) 0) 12) 0 24 tt c (omega arith) h)
 
-  pub row-fits : Fits w64 (getD (rows commands) (c * 10) 0)
+  pub row-fits : Fits w64 (getD (rows commands) (c * 13) 0)
   row-fits = record { fits = omega (arith, row-within) }
 
-  pub row-end-fits : Fits w64 (c * 10 + 1 + getD (rows commands) (c * 10) 0)
+  pub row-end-fits : Fits w64 (c * 13 + 1 + getD (rows commands) (c * 13) 0)
   row-end-fits = record { fits = omega (arith, row-within) }
 
-  pub row-end : c * 10 + 1 + getD (rows commands) (c * 10) 0 ≤ 210
+  pub row-end : c * 13 + 1 + getD (rows commands) (c * 13) 0 ≤ 312
   row-end = omega (arith, row-within)
 
   pub row-put : (o a : Put) → a ≡ putParts (rowAt c ∷ []) o → a ≡ putParts (nameAt commands c ∷ []) o
@@ -93,7 +93,7 @@ beyond [] c h = refl
 beyond (n ∷ ns) zero h = absurd (omega arith)
 beyond (n ∷ ns) (suc c) h = beyond ns c (omega arith)
 
-pub no-row-put : (c : ℕ) → 21 ≤ c → (o : Put) → o ≡ putParts (nameAt commands c ∷ []) o
+pub no-row-put : (c : ℕ) → 24 ≤ c → (o : Put) → o ≡ putParts (nameAt commands c ∷ []) o
 unfolding commands
 no-row-put c h o = none-put o ∙ ap (λ (l : List ℕ). putParts (l ∷ []) o) (sym (beyond commands c (omega arith)))
 

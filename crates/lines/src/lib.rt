@@ -18,7 +18,7 @@ pub struct Took {
 pub fn turn(bytes: &[u8], last: bool, number: u64, room: &mut [u8]) -> Took
     ensures { λ r. ⌜ Turned (now (bytes .entry)) last number (now (room .entry)) (now (room .exit)) r ⌝ }
 {
-    let mut lent = [0u8; 245];
+    let mut lent = [0u8; 880];
     let u = reading::read_framed(bytes, &mut lent);
     let used = u.used;
     let told = u.told;

@@ -10,7 +10,10 @@ ghost use Rattle.lines.specs.code.Parts.{signedParts, countedParts, name
 const DIGITS: u8 = 20;
 
 // Each command's number is below this.
-const COMMANDS: u8 = 21;
+const COMMANDS: u8 = 24;
+
+// A name's length and place for its bytes.
+const ROW: usize = 13;
 
 // A minus sign where x is below 0, and its digits.
 fn put_signed(room: &mut [u8], at: usize, x: i64) -> usize
@@ -40,8 +43,8 @@ fn put_name(room: &mut [u8], at: usize, command: u8) -> usize
         return at;
     }
     let names =
-        *b"\x03con      \x06conRsp   \x09statusRsp\x03det      \x06detRsp   \x06attPrp   \x06detPrp   \x06ulData   \x06conCmp   \x04ping     \x07pingRsp  \x07pingCmp  \x06status   \x09statusCmp\x06detCmp   \x09attPrpRsp\x09attPrpCmp\x09detPrpRsp\x09detPrpCmp\x09ulDataRsp\x09ulDataCmp";
-    let row = (command as usize) * 10;
+        *b"\x03con         \x06conRsp      \x09statusRsp   \x03det         \x06detRsp      \x06attPrp      \x06detPrp      \x06ulData      \x06conCmp      \x04ping        \x07pingRsp     \x07pingCmp     \x06status      \x09statusCmp   \x06detCmp      \x09attPrpRsp   \x09attPrpCmp   \x09detPrpRsp   \x09detPrpCmp   \x09ulDataRsp   \x09ulDataCmp   \x09dlDataQue   \x0CdlDataQueRsp\x0CdlDataQueCmp";
+    let row = (command as usize) * ROW;
     let n = names[row] as usize;
     let from = row + 1;
     put_run(room, at, &names[from..from + n])

@@ -1,15 +1,15 @@
--- A key has one kind, `kindFor`, in all lists, and each list has a key once: each by one computed test over all lists. Assumes nothing.
+-- A key has one kind in a command's list, `kindFor`, and each list has a key once: each by one computed test over all lists. Assumes nothing.
 use mathlib.Core.Path.{_≡_, refl, sym, ap, _∙_}
-use mathlib.Core.Bool.{Bool, true, not, _&&_}
-use mathlib.Core.List.{List, [], _∷_, _++_}
+use mathlib.Core.Bool.{Bool, true, false, not, _&&_}
+use mathlib.Core.List.{List, [], _∷_}
 use Prim.Native.Nat.{ℕ, zero, suc}
-use lib.Dec.{T}
+use lib.Dec.{T, eqb}
 use Rattle.octets.specs.Choice.{either}
 use Rattle.octets.proofs.Ranges.{both-left, both-right}
-use Rattle.names.specs.Names.{sameBytes}
+use Rattle.names.specs.Names.{bytes, sameBytes, downlink}
 use Rattle.names.proofs.Same.{passed-eq}
-use Rattle.field.specs.Kind.{Kind}
-use Rattle.message.specs.Fields.{Field, headed, lists, listIn, fieldsOf}
+use Rattle.field.specs.Kind.{Kind, signed64}
+use Rattle.message.specs.Fields.{Field, headed, lists, listIn, downlinkFields, fieldsOf}
 
 -- a test that every list passes
 abbrev allPass : (List Field → Bool) → List (List Field) → Bool
@@ -22,25 +22,33 @@ passes-in f [] t c = t
 passes-in f (l ∷ ls) t zero = both-left (f l) (allPass f ls) t
 passes-in f (l ∷ ls) t (suc c) = passes-in f ls (both-right (f l) (allPass f ls) t) c
 
-pub passes : (f : List Field → Bool) → T (allPass f lists) → (c : ℕ) → T (f (fieldsOf c))
-passes f t c = passes-in f lists t c
+pub passes : (f : List Field → Bool) → T (f downlinkFields && allPass f lists) → (c : ℕ) → T (f (fieldsOf c))
+passes f t c = go (eqb c downlink)
+  where
+    go : (b : Bool) → T (f (either b (λ _. downlinkFields) (λ _. listIn lists c)))
+    go true = both-left (f downlinkFields) (allPass f lists) t
+    go false = passes-in f lists (both-right (f downlinkFields) (allPass f lists) t) c
 
 -- a kind as numbers, and back: so two kinds are compared by a test
 abbrev pub shown : Kind → List ℕ
 shown (Kind.wholes lo hi) = 0 ∷ (lo ∷ (hi ∷ []))
 shown (Kind.arrays lo hi) = 1 ∷ (lo ∷ (hi ∷ []))
 shown (Kind.texts lo hi) = 2 ∷ (lo ∷ (hi ∷ []))
+shown (Kind.counters many) = 3 ∷ (many ∷ (0 ∷ []))
+shown (Kind.pieces many most all) = 4 ∷ (many ∷ (most ∷ (all ∷ [])))
 shown Kind.reals = 0 ∷ []
 shown Kind.flags = 1 ∷ []
 shown Kind.positions = 2 ∷ []
 shown Kind.versions = 3 ∷ []
 shown Kind.words = 4 ∷ []
 shown Kind.maps = 5 ∷ []
+shown Kind.singles = 6 ∷ []
 
 abbrev ranged : ℕ → ℕ → ℕ → Kind
 ranged zero lo hi = Kind.wholes lo hi
 ranged (suc zero) lo hi = Kind.arrays lo hi
-ranged (suc (suc n)) lo hi = Kind.texts lo hi
+ranged (suc (suc zero)) lo hi = Kind.texts lo hi
+ranged (suc (suc (suc n))) lo hi = Kind.counters lo
 
 abbrev simple : ℕ → Kind
 simple zero = Kind.reals
@@ -48,13 +56,15 @@ simple (suc zero) = Kind.flags
 simple (suc (suc zero)) = Kind.positions
 simple (suc (suc (suc zero))) = Kind.versions
 simple (suc (suc (suc (suc zero)))) = Kind.words
-simple (suc (suc (suc (suc (suc n))))) = Kind.maps
+simple (suc (suc (suc (suc (suc zero))))) = Kind.maps
+simple (suc (suc (suc (suc (suc (suc n)))))) = Kind.singles
 
 abbrev meant : List ℕ → Kind
 meant [] = Kind.maps
 meant (n ∷ []) = simple n
 meant (n ∷ (lo ∷ [])) = Kind.maps
-meant (n ∷ (lo ∷ (hi ∷ rest))) = ranged n lo hi
+meant (n ∷ (lo ∷ (hi ∷ []))) = ranged n lo hi
+meant (n ∷ (many ∷ (most ∷ (all ∷ rest)))) = Kind.pieces many most all
 
 shown-back : (k : Kind) → meant (shown k) ≡ k
 shown-back (Kind.wholes lo hi) = refl
@@ -66,6 +76,9 @@ shown-back Kind.positions = refl
 shown-back Kind.versions = refl
 shown-back Kind.words = refl
 shown-back Kind.maps = refl
+shown-back Kind.singles = refl
+shown-back (Kind.counters many) = refl
+shown-back (Kind.pieces many most all) = refl
 
 abbrev pub sameKind : Kind → Kind → Bool
 sameKind j k = sameBytes (shown j) (shown k)
@@ -78,29 +91,37 @@ abbrev pub kindBy : List Field → List ℕ → Kind
 kindBy [] u = Kind.maps
 kindBy (f ∷ l) u = either (sameBytes (f .key) u) (λ _. f .kind) (λ _. kindBy l u)
 
-abbrev pub joined : List (List Field) → List Field
-joined [] = []
-joined (l ∷ ls) = l ++ joined ls
+-- the kind that a command's list gives a key
+abbrev pub kindFor : ℕ → List ℕ → Kind
+kindFor c u = kindBy (fieldsOf c) u
 
--- the kind that document 01 gives a key
-unfoldable pub kindFor : List ℕ → Kind
-kindFor u = kindBy (joined lists) u
+-- each field of l has the kind that a list gives its key
+abbrev pub agreedIn : List Field → List Field → Bool
+agreedIn own [] = true
+agreedIn own (f ∷ l) = sameKind (kindBy own (f .key)) (f .kind) && agreedIn own l
 
--- each field of a list has its key's one kind
-abbrev pub agreed : List Field → Bool
-agreed [] = true
-agreed (f ∷ l) = sameKind (kindFor (f .key)) (f .kind) && agreed l
+abbrev pub agreed : ℕ → List Field → Bool
+agreed c l = agreedIn (fieldsOf c) l
 
-module _ (f : Field) (l : List Field) (a : T (agreed (f ∷ l))) where
-  pub first-agreed : f .kind ≡ kindFor (f .key)
-  first-agreed = sym (same-kind (kindFor (f .key)) (f .kind) (both-left (sameKind (kindFor (f .key)) (f .kind)) (agreed l) a))
+module _ (c : ℕ) (f : Field) (l : List Field) (a : T (agreed c (f ∷ l))) where
+  pub first-agreed : f .kind ≡ kindFor c (f .key)
+  first-agreed = sym (same-kind (kindFor c (f .key)) (f .kind) (both-left (sameKind (kindFor c (f .key)) (f .kind)) (agreed c l) a))
 
-  pub others-agreed : T (agreed l)
-  others-agreed = both-right (sameKind (kindFor (f .key)) (f .kind)) (agreed l) a
+  pub others-agreed : T (agreed c l)
+  others-agreed = both-right (sameKind (kindFor c (f .key)) (f .kind)) (agreed c l) a
 
-pub kinds-of : (c : ℕ) → T (agreed (fieldsOf c))
-unfolding kindFor lists
-kinds-of c = passes agreed tt c
+pub kinds-of : (c : ℕ) → T (agreed c (fieldsOf c))
+unfolding lists
+kinds-of c = passes (λ l. agreedIn l l) tt c
+
+-- command and opId, in every list
+pub command-kind : (c : ℕ) → kindFor c (bytes "command") ≡ Kind.words
+unfolding lists
+command-kind c = same-kind (kindFor c (bytes "command")) Kind.words (passes (λ l. sameKind (kindBy l (bytes "command")) Kind.words) tt c)
+
+pub id-kind : (c : ℕ) → kindFor c (bytes "opId") ≡ signed64
+unfolding lists
+id-kind c = same-kind (kindFor c (bytes "opId")) signed64 (passes (λ l. sameKind (kindBy l (bytes "opId")) signed64) tt c)
 
 -- a list has no such key; the keys of a list are distinct
 abbrev pub lacks : List Field → List ℕ → Bool

@@ -9,7 +9,7 @@ use Rattle.message.specs.Fields.{Field, lists, fieldsOf}
 use Rattle.message.proofs.KeyKinds.{passes}
 
 abbrev pub isKnown : Field → Bool
-isKnown f = ltb (slotOf (f .key)) 49 && sameBytes (nameAt keys (slotOf (f .key))) (f .key)
+isKnown f = ltb (slotOf (f .key)) 55 && sameBytes (nameAt keys (slotOf (f .key))) (f .key)
 
 abbrev pub areKnown : List Field → Bool
 areKnown [] = true
@@ -20,10 +20,10 @@ unfolding lists slotOf placeIn keys nameAt
 fields-known c = passes areKnown tt c
 
 module _ (f : Field) (t : T (isKnown f)) where
-  pub known-slot : slotOf (f .key) < 49
-  known-slot = ltb→lt (slotOf (f .key)) 49 (both-left (ltb (slotOf (f .key)) 49) (sameBytes (nameAt keys (slotOf (f .key))) (f .key)) t)
+  pub known-slot : slotOf (f .key) < 55
+  known-slot = ltb→lt (slotOf (f .key)) 55 (both-left (ltb (slotOf (f .key)) 55) (sameBytes (nameAt keys (slotOf (f .key))) (f .key)) t)
 
   pub known-key : nameAt keys (slotOf (f .key)) ≡ f .key
   known-key =
       same-eq (nameAt keys (slotOf (f .key))) (f .key)
-      (sym (is-true (sameBytes (nameAt keys (slotOf (f .key))) (f .key)) (both-right (ltb (slotOf (f .key)) 49) (sameBytes (nameAt keys (slotOf (f .key))) (f .key)) t)))
+      (sym (is-true (sameBytes (nameAt keys (slotOf (f .key))) (f .key)) (both-right (ltb (slotOf (f .key)) 55) (sameBytes (nameAt keys (slotOf (f .key))) (f .key)) t)))

@@ -22,7 +22,7 @@ use Rattle.message.proofs.Stands.{Agree, agree-cell, stands}
 
 -- every place agrees with what is said of its key
 abbrev pub Agrees : List ℕ → List ℕ → Fields → Type 0
-Agrees s places fs = (i : ℕ) → i < 49 → Agree s (getD places i 0) (saidOf (nameAt keys i) fs)
+Agrees s places fs = (i : ℕ) → i < 55 → Agree s (getD places i 0) (saidOf (nameAt keys i) fs)
 
 module _ (s places : List ℕ) (fs : Fields) (h : Agrees s places fs) where
   -- the cells are the same
@@ -48,10 +48,10 @@ module _ (s places : List ℕ) (fs : Fields) (h : Agrees s places fs) where
   number-said q Said.twice Agree.often = refl
 
 -- no place yet, nothing said
-unnoted-zero : (i : ℕ) → i < 49 → getD unnoted i 0 ≡ 0
-unnoted-zero i h = eqb→eq (getD unnoted i 0) 0 (ranged (λ k. eqb (getD unnoted k 0) 0) 0 49 tt i (omega arith) h)
+unnoted-zero : (i : ℕ) → i < 55 → getD unnoted i 0 ≡ 0
+unnoted-zero i h = eqb→eq (getD unnoted i 0) 0 (ranged (λ k. eqb (getD unnoted k 0) 0) 0 55 tt i (omega arith) h)
 
-nothing-said : (s : List ℕ) (i : ℕ) → i < 49 → Agree s (getD unnoted i 0) Said.absent
+nothing-said : (s : List ℕ) (i : ℕ) → i < 55 → Agree s (getD unnoted i 0) Said.absent
 nothing-said s i h = rw (unnoted-zero i h) Agree.nowhere
 
 -- the places of a payload agree with its tree

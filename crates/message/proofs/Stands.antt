@@ -74,8 +74,8 @@ not-empty (map b l ps) = omega arith
 
 -- only the slot of the key changes
 module _ (s : List ℕ) (u : List ℕ) (q : ℕ) (e : Element) (g : 2 ≤ q) (f : (k : Kind) → cellAt k s q ≡ cellOf k (Said.once e)) (t : textOf (shallowAt s q) ≡ textOf e)
-    (a : List ℕ) (n : length a ≡ 64) (x : ℕ → Said) (h : (i : ℕ) → i < 49 → Agree s (getD a i 0) (x i)) where
-  changed : (i : ℕ) → i < 49 → (b : Bool) → sameBytes (nameAt keys i) u ≡ b → Agree s (getD (noted a (slotOf u) q) i 0) (either b (λ _. again e (x i)) (λ _. x i))
+    (a : List ℕ) (n : length a ≡ 64) (x : ℕ → Said) (h : (i : ℕ) → i < 55 → Agree s (getD a i 0) (x i)) where
+  changed : (i : ℕ) → i < 55 → (b : Bool) → sameBytes (nameAt keys i) u ≡ b → Agree s (getD (noted a (slotOf u) q) i 0) (either b (λ _. again e (x i)) (λ _. x i))
   changed i l true p =
       let j : slotOf u ≡ i = eqb-true (slotOf u) i (sym (slot-is u i l) ∙ p) in
       rw (j, getD-set-same a i (noteOf (getD a i 0) q) 0 (omega arith)) (agree-again (h i l) q e g f t)
@@ -83,13 +83,13 @@ module _ (s : List ℕ) (u : List ℕ) (q : ℕ) (e : Element) (g : 2 ≤ q) (f 
       let j : slotOf u ≡ i → ⊥ = eqb-false (slotOf u) i (sym (slot-is u i l) ∙ p) in
       rw (getD-set-other a (slotOf u) i (noteOf (getD a (slotOf u) 0) q) 0 (λ r. j (sym r))) (h i l)
 
-  noted-agree : (i : ℕ) → i < 49 → Agree s (getD (noted a (slotOf u) q) i 0) (either (sameBytes (nameAt keys i) u) (λ _. again e (x i)) (λ _. x i))
+  noted-agree : (i : ℕ) → i < 55 → Agree s (getD (noted a (slotOf u) q) i 0) (either (sameBytes (nameAt keys i) u) (λ _. again e (x i)) (λ _. x i))
   noted-agree i l = changed i l (sameBytes (nameAt keys i) u) refl
 
 -- the pairs of the outer map, from `at` on
 pub stands : (ps : Pairs) (s : List ℕ) (at count : ℕ) (t : List ℕ) → LawfulPairs ps → depthOfPairs ps ≤ 7 → count + countOfPairs ps ≤ 1024 → 1 ≤ at → at ≤ length s
-    → drop at s ≡ bytesOfPairs ps ++ t → (a : List ℕ) → length a ≡ 64 → (x : ℕ → Said) → ((i : ℕ) → i < 49 → Agree s (getD a i 0) (x i))
-    → (i : ℕ) → i < 49 → Agree s (getD (notesOf s (pairCount ps) at count a) i 0) (saidFrom (nameAt keys i) (x i) (meaningOfPairs ps))
+    → drop at s ≡ bytesOfPairs ps ++ t → (a : List ℕ) → length a ≡ 64 → (x : ℕ → Said) → ((i : ℕ) → i < 55 → Agree s (getD a i 0) (x i))
+    → (i : ℕ) → i < 55 → Agree s (getD (notesOf s (pairCount ps) at count a) i 0) (saidFrom (nameAt keys i) (x i) (meaningOfPairs ps))
 unfolding notesOf saidFrom bytesOf countOf depthOf Lawful pairCount meaningOf
 stands end s at count t L D C m b e a n x h i l = h i l
 stands (pair k v ps) s at count t L D C m b e a n x h i l =

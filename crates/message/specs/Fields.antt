@@ -1,7 +1,7 @@
--- Document 01, "Commands": each command's fields in its order, command and opId first, the D fields behind the others.
+-- Document 01, "Commands", and document 02, Q-2: each command's fields in its order, command and opId first, the D fields behind the others.
 use Prim.Native.{Nat.ℕ, Nat.zero, Nat.suc, String.String}
 use mathlib.Core.{Bool.Bool, Bool.true, Bool.false, List.List, List.[], List._∷_}
-use Rattle.names.specs.Names.{bytes}
+use Rattle.names.specs.Names.{bytes, ifDownlink}
 use Rattle.field.specs.Kind.{Kind, signed64, unsigned64, unsigned32, unsigned16, unsigned8, signed32, stationId, centreId, bytes16, bytes4, userBytes, profileText, statusText}
 
 -- a key, whether the field is mandatory, and its kind
@@ -37,7 +37,7 @@ received fs =
     may "profile" profileText ∷
     fs
 
--- the lists, in the order of `commands`; the last thirteen have nothing more
+-- document 01's lists, in the order of `commands`; its last thirteen have nothing more
 unfoldable pub lists : List (List Field)
 lists =
     headed
@@ -95,6 +95,22 @@ listIn [] n = headed []
 listIn (l ∷ ls) zero = l
 listIn (l ∷ ls) (suc n) = listIn ls n
 
--- the fields of the command with a number
+-- dlDataQue's, as source document 000 has them
+abbrev pub downlinkFields : List Field
+downlinkFields =
+    headed
+    (need "epEui" unsigned64 ∷
+    need "queId" unsigned64 ∷
+    need "cntDepend" Kind.flags ∷
+    may "packetCnt" (Kind.counters 16) ∷
+    need "userData" (Kind.pieces 16 245 800) ∷
+    may "format" unsigned8 ∷
+    may "prio" Kind.singles ∷
+    may "responseExp" Kind.flags ∷
+    may "responsePrio" Kind.flags ∷
+    may "dlWindReq" Kind.flags ∷
+    may "expOnly" Kind.flags ∷ [])
+
+-- the fields of the command with a number; its two replies have nothing more
 abbrev pub fieldsOf : ℕ → List Field
-fieldsOf c = listIn lists c
+fieldsOf c = ifDownlink c downlinkFields (listIn lists c)

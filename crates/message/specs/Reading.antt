@@ -1,14 +1,15 @@
 -- Document 01: after form come 11, 12, 13, 14, 15, in that order over the whole message. A reading goes by what the outer map says of each key, so pair
 -- order never matters, and a key outside the command's list says nothing: these are the command's name, the cells of its fields and the gravest fault.
-use Prim.Native.Nat.{ℕ, zero, suc, _+_, _-_, _*_, max}
+use Prim.Native.{Nat.ℕ, Nat.zero, Nat.suc, Nat._+_, Nat._-_, Nat._*_, Nat.max, String.String}
+use lib.Dec.{eqb, leb}
 use mathlib.Core.Bool.{Bool, true, false, _&&_, not}
 use mathlib.Core.{List.List, List.[], List._∷_, Option.Option, Option.none}
 use Rattle.octets.specs.Choice.{either}
 use Rattle.element.specs.{Meaning.Element, Meaning.Fields, Meaning.Fields.no-field, Meaning.Fields.field}
 use Rattle.element.specs.Meaning.Element.{null, truth, whole, single, double, text, octets, typed, list, table}
 use Rattle.names.specs.Names.{bytes, sameBytes}
-use Rattle.field.specs.{Judge.textOf, Cell.Said, Cell.Cell, Cell.cellOf}
-use Rattle.message.specs.{Fields.Field, Record.markIn}
+use Rattle.field.specs.{Judge.textOf, Cell.Said, Cell.Cell, Cell.cellOf, Cell.here}
+use Rattle.message.specs.{Fields.Field, Record.wordIn, Record.markIn}
 
 -- the pairs of an outer map
 abbrev pub outerOf : Element → Fields
@@ -78,8 +79,34 @@ unfoldable pub placeAmong : List Field → List ℕ → ℕ
 placeAmong [] k = 0
 placeAmong (f ∷ l) k = either (sameBytes (f .key) k) (λ _. 0) (λ _. suc (placeAmong l k))
 
--- responseExp true with dlOpen false is invalid
+-- a rule between fields is judged where each of them is valid: cells without a fault, of which those that the rule needs are there
+abbrev pub isValid : Cell → Bool
+isValid Cell.missing = true
+isValid Cell.double = false
+isValid Cell.bad = false
+isValid (Cell.good v) = true
+
+module _ (look : List ℕ → Cell) where
+  abbrev on : String → Cell
+  on k = look (bytes k)
+
+  -- responseExp true with dlOpen false
+  abbrev pub isUnopened : Bool
+  isUnopened = markIn (on "responseExp") && (here (on "dlOpen") && not (markIn (on "dlOpen")))
+
+  -- document 02, Q-2: cntDepend true needs as many data entries as counters, at least one; false, one data entry and no packetCnt
+  abbrev pub countsAgree : Bool
+  countsAgree =
+      either (markIn (on "cntDepend"))
+      (λ _. here (on "packetCnt") && (eqb (wordIn (on "packetCnt")) (wordIn (on "userData")) && leb 1 (wordIn (on "userData"))))
+      (λ _. not (here (on "packetCnt")) && eqb (wordIn (on "userData")) 1)
+
+  abbrev pub isMiscounted : Bool
+  isMiscounted = here (on "cntDepend") && (isValid (on "packetCnt") && (here (on "userData") && not countsAgree))
+
+-- the field with a key is invalid by a rule that is broken
+abbrev pub brokenAt : List Field → String → Bool → ℕ
+brokenAt l k broken = either broken (λ _. graded 1 (placeAmong l (bytes k))) (λ _. 0)
+
 abbrev pub crossed : List Field → (List ℕ → Cell) → ℕ
-crossed l look =
-    either (markIn (look (bytes "responseExp")) && not (markIn (look (bytes "dlOpen"))))
-    (λ _. graded 1 (placeAmong l (bytes "responseExp"))) (λ _. 0)
+crossed l look = max (brokenAt l "responseExp" (isUnopened look)) (brokenAt l "packetCnt" (isMiscounted look))

@@ -4,7 +4,7 @@ use mathlib.Core.{Bool.Bool, List.List}
 use lib.{IntN.ℤ, Ieee.Float}
 use Rattle.field.specs.Kind.{Value}
 use Rattle.field.specs.Cell.{Cell, valueIn, here, wordOf, viewsOf, figureOf, positionOf}
-use Rattle.message.specs.declared.{MaybeWord.MaybeWord, MaybeId.MaybeId, MaybeReal.MaybeReal, MaybePosition.MaybePosition}
+use Rattle.message.specs.declared.{MaybeWord.MaybeWord, MaybeId.MaybeId, MaybeReal.MaybeReal, MaybeMark.MaybeMark, MaybePosition.MaybePosition}
 
 abbrev pub wordIn : Cell → ℕ
 wordIn c = wordOf (valueIn c)
@@ -27,6 +27,12 @@ markIn c = markOf (valueIn c)
 abbrev pub stringOf : Value → List ℕ
 stringOf v = viewsOf v .string
 
+abbrev pub countsOf : Value → List ℕ
+countsOf v = viewsOf v .counts
+
+abbrev pub stringsOf : Value → List (List ℕ)
+stringsOf v = viewsOf v .strings
+
 abbrev pub maybeWord : Cell → MaybeWord
 maybeWord c = record { here = here c; value = wordIn c }
 
@@ -35,6 +41,9 @@ maybeId c = record { here = here c; value = idIn c }
 
 abbrev pub maybeReal : Cell → MaybeReal
 maybeReal c = record { here = here c; value = figureIn c }
+
+abbrev pub maybeMark : Cell → MaybeMark
+maybeMark c = record { here = here c; value = markIn c }
 
 abbrev pub maybePosition : Cell → MaybePosition
 maybePosition c = record { here = here c; value = positionOf (valueIn c) }

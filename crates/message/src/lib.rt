@@ -17,6 +17,11 @@ pub struct MaybeReal {
     pub value: f64,
 }
 
+pub struct MaybeMark {
+    pub here: bool,
+    pub value: bool,
+}
+
 pub struct MaybePosition {
     pub here: bool,
     pub value: field::Position,

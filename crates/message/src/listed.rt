@@ -51,7 +51,7 @@ pub const MEM_LOAD: u8 = 10;
 
 pub const CONFIG: u8 = 11;
 
-// det's and ulData's; attPrp and detPrp have the first too.
+// det's and ulData's; attPrp, detPrp and dlDataQue have the first too.
 pub const EP_EUI: u8 = 2;
 
 pub const RX_TIME: u8 = 3;
@@ -106,3 +106,24 @@ pub const DL_ACK: u8 = 14;
 pub const MODE: u8 = 15;
 
 pub const UL_DATA_SUBPACKETS: u8 = 16;
+
+// dlDataQue's.
+pub const QUE_ID: u8 = 3;
+
+pub const CNT_DEPEND: u8 = 4;
+
+pub const DOWNLINK_PACKET_CNT: u8 = 5;
+
+pub const DOWNLINK_USER_DATA: u8 = 6;
+
+pub const DOWNLINK_FORMAT: u8 = 7;
+
+pub const PRIO: u8 = 8;
+
+pub const DOWNLINK_RESPONSE_EXP: u8 = 9;
+
+pub const RESPONSE_PRIO: u8 = 10;
+
+pub const DL_WIND_REQ: u8 = 11;
+
+pub const EXP_ONLY: u8 = 12;

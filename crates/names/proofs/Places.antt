@@ -63,27 +63,27 @@ unfolding placeIn
 place-small [] u = lit≤ tt
 place-small (n ∷ ns) u = below (sameBytes n u) (placeIn ns u) (length ns) (place-small ns u)
 
-pub slot-is : (u : List ℕ) (k : ℕ) → k < 49 → sameBytes (nameAt keys k) u ≡ eqb (slotOf u) k
+pub slot-is : (u : List ℕ) (k : ℕ) → k < 55 → sameBytes (nameAt keys k) u ≡ eqb (slotOf u) k
 unfolding slotOf keys
 slot-is u k h = place-is keys tt u k h
 
-pub slot-key : (k : ℕ) → k < 49 → slotOf (nameAt keys k) ≡ k
+pub slot-key : (k : ℕ) → k < 55 → slotOf (nameAt keys k) ≡ k
 unfolding slotOf keys
 slot-key k h = place-name keys tt k h
 
-pub slot-small : (u : List ℕ) → slotOf u ≤ 49
+pub slot-small : (u : List ℕ) → slotOf u ≤ 55
 unfolding slotOf keys
 slot-small u = place-small keys u
 
-pub command-is : (u : List ℕ) (k : ℕ) → k < 21 → sameBytes (nameAt commands k) u ≡ eqb (commandOf u) k
+pub command-is : (u : List ℕ) (k : ℕ) → k < 24 → sameBytes (nameAt commands k) u ≡ eqb (commandOf u) k
 unfolding commandOf commands
 command-is u k h = place-is commands tt u k h
 
-pub command-name : (k : ℕ) → k < 21 → commandOf (nameAt commands k) ≡ k
+pub command-name : (k : ℕ) → k < 24 → commandOf (nameAt commands k) ≡ k
 unfolding commandOf commands
 command-name k h = place-name commands tt k h
 
-pub command-small : (u : List ℕ) → commandOf u ≤ 21
+pub command-small : (u : List ℕ) → commandOf u ≤ 24
 unfolding commandOf commands
 command-small u = place-small commands u
 

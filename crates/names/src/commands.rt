@@ -61,6 +61,25 @@ pub fn nine(x: u64, y: u64) -> u8
         0x646574507270436D /* detPrpCmp */ => if y == 0x70 { 18 } else { COMMANDS },
         0x756C446174615273 /* ulDataRsp */ => if y == 0x70 { 19 } else { COMMANDS },
         0x756C44617461436D /* ulDataCmp */ => if y == 0x70 { 20 } else { COMMANDS },
+        0x646C446174615175 /* dlDataQue */ => if y == 0x65 { 21 } else { COMMANDS },
+        _ => COMMANDS,
+    }
+}
+
+pub fn twelve(x: u64, y: u64) -> u8
+    ensures { λ r. ⌜ r ≡ placeBy commands 12 8 x y ⌝ }
+{
+    match y {
+        0x65527370 /* dlDataQueRsp */ => if x == 0x646C446174615175 {
+            22
+        } else {
+            COMMANDS
+        },
+        0x65436D70 /* dlDataQueCmp */ => if x == 0x646C446174615175 {
+            23
+        } else {
+            COMMANDS
+        },
         _ => COMMANDS,
     }
 }

@@ -27,6 +27,7 @@ pub fn four(x: u64) -> usize
         0x72737369 /* rssi */ => 31,
         0x7369676E /* sign */ => 34,
         0x6D6F6465 /* mode */ => 48,
+        0x7072696F /* prio */ => 51,
         _ => NONE,
     }
 }
@@ -41,6 +42,7 @@ pub fn five(x: u64, y: u64) -> usize
         0x65704575 /* epEui */ => if y == 0x69 { 26 } else { NONE },
         0x6571536E /* eqSnr */ => if y == 0x72 { 32 } else { NONE },
         0x646C4163 /* dlAck */ => if y == 0x6B { 47 } else { NONE },
+        0x71756549 /* queId */ => if y == 0x64 { 49 } else { NONE },
         _ => NONE,
     }
 }
@@ -70,6 +72,7 @@ pub fn seven(x: u64, y: u64) -> usize
         0x6370754C /* cpuLoad */ => if y == 0x6F6164 { 23 } else { NONE },
         0x6D656D4C /* memLoad */ => if y == 0x6F6164 { 24 } else { NONE },
         0x70726F66 /* profile */ => if y == 0x696C65 { 33 } else { NONE },
+        0x6578704F /* expOnly */ => if y == 0x6E6C79 { 54 } else { NONE },
         _ => NONE,
     }
 }
@@ -97,6 +100,8 @@ pub fn nine(x: u64, y: u64) -> usize
         0x737756657273696F /* swVersion */ => if y == 0x6E { 12 } else { NONE },
         0x647574794379636C /* dutyCycle */ => if y == 0x65 { 20 } else { NONE },
         0x7061636B6574436E /* packetCnt */ => if y == 0x74 { 29 } else { NONE },
+        0x636E74446570656E /* cntDepend */ => if y == 0x64 { 50 } else { NONE },
+        0x646C57696E645265 /* dlWindReq */ => if y == 0x71 { 53 } else { NONE },
         _ => NONE,
     }
 }
@@ -120,6 +125,15 @@ pub fn eleven(x: u64, y: u64) -> usize
         0x7769646543617272 /* wideCarrOff */ => if y == 0x4F6666 { 41 } else { NONE },
         0x6C6F6E67426C6B44 /* longBlkDist */ => if y == 0x697374 { 42 } else { NONE },
         0x726573706F6E7365 /* responseExp */ => if y == 0x457870 { 46 } else { NONE },
+        _ => NONE,
+    }
+}
+
+pub fn twelve(x: u64, y: u64) -> usize
+    ensures { λ r. ⌜ r ≡ placeBy keys 12 8 x y ⌝ }
+{
+    match x {
+        0x726573706F6E7365 /* responsePrio */ => if y == 0x5072696F { 52 } else { NONE },
         _ => NONE,
     }
 }

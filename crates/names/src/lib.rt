@@ -12,10 +12,10 @@ pub mod slots;
 
 use octets::big_at;
 
-// The key's slot; 49 for a key of no command.
+// The key's slot; 55 for a key of no command.
 pub fn slot_of(key: &[u8]) -> usize
     ensures is { λ r. ⌜ r ≡ slotOf (now (key .entry)) ⌝ }
-    ensures small { λ r. ⌜ r ≤ 49 ⌝ }
+    ensures small { λ r. ⌜ r ≤ 55 ⌝ }
 {
     match key.len() {
         3 => keys::three(big_at(key, 0, 2), big_at(key, 2, 1)),
@@ -27,15 +27,16 @@ pub fn slot_of(key: &[u8]) -> usize
         9 => keys::nine(eight_of(key), big_at(key, 8, 1)),
         10 => keys::ten(eight_of(key), big_at(key, 8, 2)),
         11 => keys::eleven(eight_of(key), big_at(key, 8, 3)),
+        12 => keys::twelve(eight_of(key), big_at(key, 8, 4)),
         13 => keys::thirteen(eight_of(key), big_at(key, 8, 5)),
         _ => slots::NONE,
     }
 }
 
-// The command's number; 21 for a name of no command.
+// The command's number; 24 for a name of no command.
 pub fn command_of(name: &[u8]) -> u8
     ensures is { λ r. ⌜ r ≡ commandOf (now (name .entry)) ⌝ }
-    ensures small { λ r. ⌜ r ≤ 21 ⌝ }
+    ensures small { λ r. ⌜ r ≤ 24 ⌝ }
 {
     match name.len() {
         3 => commands::three(big_at(name, 0, 2), big_at(name, 2, 1)),
@@ -43,6 +44,7 @@ pub fn command_of(name: &[u8]) -> u8
         6 => commands::six(big_at(name, 0, 4), big_at(name, 4, 2)),
         7 => commands::seven(big_at(name, 0, 4), big_at(name, 4, 3)),
         9 => commands::nine(eight_of(name), big_at(name, 8, 1)),
+        12 => commands::twelve(eight_of(name), big_at(name, 8, 4)),
         _ => numbers::COMMANDS,
     }
 }

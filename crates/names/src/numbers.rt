@@ -1,4 +1,4 @@
-// The number of each command: its place in document 01's list.
+// The number of each command: its place in document 01's list; those of document 02's Q-2 stand behind them, so that no number moved.
 pub const CON: u8 = 0;
 
 pub const CON_RSP: u8 = 1;
@@ -41,5 +41,11 @@ pub const UL_DATA_RSP: u8 = 19;
 
 pub const UL_DATA_CMP: u8 = 20;
 
+pub const DL_DATA_QUE: u8 = 21;
+
+pub const DL_DATA_QUE_RSP: u8 = 22;
+
+pub const DL_DATA_QUE_CMP: u8 = 23;
+
 // How many there are; the number of a name of no command.
-pub const COMMANDS: u8 = 21;
+pub const COMMANDS: u8 = 24;

@@ -1,4 +1,4 @@
-// The slot of each key: its place among document 01's keys.
+// The slot of each key: its place among the keys of documents 01 and 02.
 pub const COMMAND: usize = 0;
 
 pub const OP_ID: usize = 1;
@@ -97,5 +97,17 @@ pub const DL_ACK: usize = 47;
 
 pub const MODE: usize = 48;
 
+pub const QUE_ID: usize = 49;
+
+pub const CNT_DEPEND: usize = 50;
+
+pub const PRIO: usize = 51;
+
+pub const RESPONSE_PRIO: usize = 52;
+
+pub const DL_WIND_REQ: usize = 53;
+
+pub const EXP_ONLY: usize = 54;
+
 // A key of no command.
-pub const NONE: usize = 49;
+pub const NONE: usize = 55;

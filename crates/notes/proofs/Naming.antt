@@ -74,22 +74,22 @@ module _ (s : List ℕ) (p : ℕ) where
   shallow-text h (Holds q n true) e = simp (lt-ltb p (length s) h, e)
   shallow-text h (Holds q n false) e = simp (lt-ltb p (length s) h, e)
 
-  pub number-early : p < 2 → 22 ≡ commandAt s p
+  pub number-early : p < 2 → 25 ≡ commandAt s p
   unfolding commandAt
   number-early h = go p h
     where
-      go : (p : ℕ) → p < 2 → 22 ≡ commandAt s p
+      go : (p : ℕ) → p < 2 → 25 ≡ commandAt s p
       go zero h = refl
       go (suc zero) h = refl
       go (suc (suc p)) h = absurd (omega arith)
 
-  pub number-past : 2 ≤ p → length s ≤ p → 22 ≡ commandAt s p
+  pub number-past : 2 ≤ p → length s ≤ p → 25 ≡ commandAt s p
   unfolding shallowAt
   number-past g h =
       let t : textOf (shallowAt s p) ≡ none = simp (le-ltb p (length s) h) in
       sym (by-text s p g ∙ ap numbered t)
 
-  pub number-other : 2 ≤ p → p < length s → (m : Bool) → m ≡ isText (headOf (getD s p 0) .shape) → m ≡ false → 22 ≡ commandAt s p
+  pub number-other : 2 ≤ p → p < length s → (m : Bool) → m ≡ isText (headOf (getD s p 0) .shape) → m ≡ false → 25 ≡ commandAt s p
   unfolding headOf
   number-other g h m f k =
       sym (by-text s p g ∙ ap numbered (shallow-text h (spanOf s p) refl ∙ none-to (spanOf s p)))
@@ -106,7 +106,7 @@ module _ (s : List ℕ) (p : ℕ) where
     is-shape : h .shape ≡ Text
     is-shape = ap (λ (q : Head). q .shape) (y .is) ∙ i .text
 
-    pub number-cut : length s - p - 1 < h .wide → 22 ≡ commandAt s p
+    pub number-cut : length s - p - 1 < h .wide → 25 ≡ commandAt s p
     unfolding spanOf
     number-cut l = sym (by-text s p (i .behind) ∙ ap numbered (shallow-text (i .there) Cut (rw (← y .is) (simp (lt-leb (p + 1 + h .wide) (length s) (omega (arith, i .there)))))))
 
@@ -118,7 +118,7 @@ module _ (s : List ℕ) (p : ℕ) where
           let v : x ≡ bigAt s (p + 1) (h .wide) = f ∙ simp (le-leb (h .wide) 8 (omega (arith, y .wide)), j) in
           rw (← y .is) (simp (j, is-shape, ← v))
 
-      pub number-lacking : length s - (p + 1 + h .wide) < h .more + x → 22 ≡ commandAt s p
+      pub number-lacking : length s - (p + 1 + h .wide) < h .more + x → 25 ≡ commandAt s p
       unfolding bodyOf
       number-lacking l =
           sym (by-text s p (i .behind) ∙ ap numbered (shallow-text (i .there) Cut (span-here ∙ simp (lt-leb (h .more + x) (length s - (p + 1 + h .wide)) l))))

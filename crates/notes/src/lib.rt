@@ -15,7 +15,7 @@ ghost use Rattle.walk.specs.code.Short.{Announces};
 ghost use Rattle.message.specs.code.Cells.{commandAt};
 ghost use Rattle.notes.specs.code.Noted.{notedOf, openedOf, BeginsMap, IsTextAt};
 
-// The walk's answer, and the place of each key's value by slot: 0 nowhere, 1 more than once. Slot 49 is for keys of no command.
+// The walk's answer, and the place of each key's value by slot: 0 nowhere, 1 more than once. Slot 55 is for keys of no command.
 pub struct Noted {
     pub step: element::Step,
     pub places: [u16; 64],
@@ -62,7 +62,7 @@ fn opened_map(s: &[u8]) -> Noted
 }
 
 // Instead of a command's number: there is no one text. One less is a text that names none.
-pub const NO_TEXT: u8 = 22;
+pub const NO_TEXT: u8 = 25;
 
 // The command's number by the place of its text.
 pub fn command_at(s: &[u8], place: u16) -> u8

@@ -73,7 +73,7 @@ fn note(old: u16, q: u16) -> u16
 fn slot_at(s: &[u8], p: usize, q: usize) -> usize
     requires { ⌜ IsKey (now s) p q ⌝ }
     ensures is { λ r. ⌜ r ≡ slotOf (keyAt (now (s .entry)) p q) ⌝ }
-    ensures small { λ r. ⌜ r ≤ 49 ⌝ }
+    ensures small { λ r. ⌜ r ≤ 55 ⌝ }
 {
     let from = body_of(s, p);
     names::slot_of(&s[from..q])

@@ -1,16 +1,16 @@
--- What stands for a value in a real field, or in geoLocation, is worth the same: a float of exactly a whole number is the real that the number is worth, since a
+-- What stands for a value in a real field, in prio or in geoLocation is worth the same: a float of exactly a whole number is the real that the number is worth, since a
 -- float 64 has one float of a value. Assumes nothing.
 use mathlib.Core.Path.{_≡_, refl, sym, ap, _∙_}
 use mathlib.Core.{Bool.Bool, Bool.true, List.List, Option.Option, Option.some}
 use Prim.Native.Nat.{ℕ, suc, _^_}
 use lib.{Dec.T, Dec.le→leb, IntN.ℤ, IntN.pos, IntN.negsuc, IntN.natAbs}
-use lib.Ieee.{Float, Format, binary32, binary64, ofBits, ofInt, Exact.HasValue}
+use lib.Ieee.{Float, Format, binary32, binary64, ofBits, ofInt, fits, Exact.HasValue}
 use Rattle.octets.proofs.Ranges.{is-true}
 use Rattle.element.specs.{Meaning.Element, Meaning.Elements, Meaning.Element.whole}
 use Rattle.number.specs.Number.{numberOf, finite, realBy}
 use Rattle.number.proofs.Finite.{isFin, bits-fin, bits-fit, valued-fin}
 use Rattle.field.specs.Kind.{Kind, Value}
-use Rattle.field.specs.Judge.{onSome, inRange, wholeReal, realIn, realsIn, threeOf, textOf, judge}
+use Rattle.field.specs.Judge.{when, onSome, inRange, wholeReal, realIn, realsIn, threeOf, textOf, judge}
 use Rattle.field.proofs.Reals.{isNegative, only-value}
 use Rattle.promises.specs.Steady.{Exactly, SameReal, SameReals, StandsFor}
 
@@ -52,6 +52,7 @@ same-reals (SameReals.more s ss) = rw (same-real s, same-reals ss)
 pub stands-judged : {κ : Kind} {e d : Element} → StandsFor κ e d → judge κ e ≡ judge κ d
 unfolding judge
 stands-judged (StandsFor.real s) = ap (λ (o : Option Float). onSome o (λ x. some (Value.figure x))) (same-real s)
+stands-judged (StandsFor.prio s) = ap (λ (o : Option Float). onSome o (λ x. when (fits binary32 x) (Value.figure x))) (same-real s)
 stands-judged (StandsFor.position ss) = ap (λ (o : Option (List Float)). onSome o threeOf) (same-reals ss)
 
 -- none of these is a text
@@ -62,4 +63,5 @@ real-no-text (SameReal.float64 e) = refl
 
 pub stands-text : {κ : Kind} {e d : Element} → StandsFor κ e d → textOf e ≡ textOf d
 stands-text (StandsFor.real s) = real-no-text s
+stands-text (StandsFor.prio s) = real-no-text s
 stands-text (StandsFor.position ss) = refl

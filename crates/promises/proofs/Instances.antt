@@ -11,7 +11,7 @@ use Rattle.element.specs.{Lead.leadBytes, Lead.rowIn, Lead.headOf, Tree.Tree.le
 use Rattle.element.specs.{Tree.Pairs.end, Tree.Pairs.pair, Meaning.meaningOf, Meaning.meaningOfPairs}
 use Rattle.element.specs.Tree.{Tree, Trees, Pairs, bytesOf, countOf, depthOf, partCount, pairCount}
 use Rattle.names.specs.Names.{bytes, commands, placeIn, nameAt, commandOf}
-use Rattle.field.specs.{Kind.Kind, Judge.octetsIn, Judge.judge, Cell.zero64}
+use Rattle.field.specs.{Kind.Kind, Judge.naturalsIn, Judge.judge, Cell.zero64}
 use Rattle.message.specs.Fields.{lists, listIn, fieldsOf}
 use Rattle.message.specs.Reading.{saidFrom, cellsOf, gravest, lookIn, placeAmong}
 use Rattle.record.specs.declared.{Body.Body, Message.Message}
@@ -19,7 +19,7 @@ use Rattle.record.specs.Record.{bodyIn, messageOf, lentKeys, dataOf}
 use Rattle.record.specs.{Reading.Reading, Reading.readingAs, Reading.readingOf, code.Places.answerAt}
 use Rattle.record.specs.Meant.{Answered, answerOf, lentSize, Meant}
 use Rattle.record.proofs.Answered.{answer-meant}
-use Rattle.promises.specs.Steady.{SameReal, StandsFor, Rearranged, Changed, Known, Carries, Alike}
+use Rattle.promises.specs.Steady.{Default, SameReal, StandsFor, Rearranged, Changed, Known, Carries, Alike}
 use Rattle.promises.proofs.{Steady.steady, Tested.isLawful, Tested.isPayload, Tested.says, Tested.of-kind}
 use Rattle.promises.proofs.Moves.{behind, turned, before, moved, put-in, inside, turn, respelled}
 
@@ -266,7 +266,7 @@ uplink-change : Changed 7 uplink uplink-changed
 unfolding rowIn leadBytes bigAt meaningOf saidFrom lists listIn
 uplink-change =
     Changed.next (Changed.rearranged (Rearranged.back (moved 7 8 (text "format") (lone 0) uplink-bare)))
-    (Changed.next (Changed.left-out refl refl refl)
+    (Changed.next (Changed.left-out {k = text "format"} {v = lone 0} {ps = uplink-bare} Default.format refl)
     (Changed.rearranged
     (Rearranged.next (turn 7 uplink-bare)
     (Rearranged.next (put-in 7 3 (text "maker") maker (turned uplink-bare end) tt)
@@ -318,7 +318,7 @@ abbrev pub user-data : List ℕ
 user-data = 0x0A ∷ 0x0B ∷ 0x0C ∷ []
 
 pub changed-read : BothRead uplink uplink-changed uplink-2 user-data
-unfolding bigAt ofBits ofInt meaningOf rowIn leadBytes saidFrom commandOf placeIn commands lists listIn octetsIn judge cellsOf gravest lookIn placeAmong bodyIn messageOf lentKeys nameAt dataOf readingAs readingOf
+unfolding bigAt ofBits ofInt meaningOf rowIn leadBytes saidFrom commandOf placeIn commands lists listIn naturalsIn judge cellsOf gravest lookIn placeAmong bodyIn messageOf lentKeys nameAt dataOf readingAs readingOf
 changed-read = (refl, refl)
 
 -- 28 and 30 elements

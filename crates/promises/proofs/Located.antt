@@ -11,7 +11,7 @@ use Rattle.element.specs.{Lead.leadBytes, Lead.rowIn, Lead.headOf, Tree.Tree.le
 use Rattle.element.specs.Meaning.{meaningOf}
 use Rattle.element.specs.Tree.{Tree, Trees, Pairs, bytesOf, countOf, depthOf, partCount, pairCount}
 use Rattle.names.specs.Names.{bytes, commands, placeIn, nameAt, commandOf}
-use Rattle.field.specs.{Kind.Kind, Judge.octetsIn, Judge.realsIn, Judge.judge, Version.cutAtDots, Version.digitsFrom, Version.versionOf, Cell.located}
+use Rattle.field.specs.{Kind.Kind, Judge.naturalsIn, Judge.realsIn, Judge.judge, Version.cutAtDots, Version.digitsFrom, Version.versionOf, Cell.located}
 use Rattle.message.specs.Fields.{lists, listIn, fieldsOf}
 use Rattle.message.specs.Reading.{saidFrom, cellsOf, gravest, lookIn, placeAmong}
 use Rattle.record.specs.declared.{Body.Body, Message.Message}
@@ -133,5 +133,5 @@ con-there = record {
 }
 
 pub counted-read : BothRead con-floats con-counted con-there []
-unfolding bigAt ofBits ofInt meaningOf rowIn leadBytes saidFrom commandOf placeIn commands lists listIn octetsIn realsIn cutAtDots digitsFrom versionOf judge cellsOf gravest lookIn placeAmong bodyIn messageOf lentKeys nameAt dataOf readingAs readingOf
+unfolding bigAt ofBits ofInt meaningOf rowIn leadBytes saidFrom commandOf placeIn commands lists listIn naturalsIn realsIn cutAtDots digitsFrom versionOf judge cellsOf gravest lookIn placeAmong bodyIn messageOf lentKeys nameAt dataOf readingAs readingOf
 counted-read = (refl, refl)

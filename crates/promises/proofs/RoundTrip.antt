@@ -48,7 +48,7 @@ module _ (m : Message) (d room : List ℕ) (fit : fits m d ≡ true) (enough : l
   unfolding frameOf identifier
   long = omega (arith, length-append (littleBytes 4 (length payload)) payload, length-little 4 (length payload))
 
-  short : length payload ≤ 1000
+  short : length payload ≤ 1897
   short = payload-short m d fit
 
   opened : putAt room 0 (frameFor m d) ≡ identifier ++ (littleBytes 4 (length payload) ++ (payload ++ rest))

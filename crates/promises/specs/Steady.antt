@@ -37,9 +37,10 @@ pub data SameReals : Elements → Elements → Type 0 where
   no-more : SameReals Elements.no-more Elements.no-more
   more : {e d : Element} {es ds : Elements} → SameReal e d → SameReals es ds → SameReals (Elements.more e es) (Elements.more d ds)
 
--- what stands for what in a real field, and in each of geoLocation's three
+-- what stands for what in a real field, in prio, and in each of geoLocation's three
 pub data StandsFor : Kind → Element → Element → Type 0 where
   real : {e d : Element} → SameReal e d → StandsFor Kind.reals e d
+  prio : {e d : Element} → SameReal e d → StandsFor Kind.singles e d
   position : {es ds : Elements} → SameReals es ds → StandsFor Kind.positions (list es) (list ds)
 
 -- pairs of a message of command c, put in another order, with strange pairs put in, with other widths, and with whole numbers for reals; any number of these, and back
@@ -59,11 +60,17 @@ pub data Rearranged (c : ℕ) : Pairs → Pairs → Type 0 where
   next : {ps qs rs : Pairs} → Rearranged c ps qs → Rearranged c qs rs → Rearranged c ps rs
   back : {ps qs : Pairs} → Rearranged c ps qs → Rearranged c qs ps
 
--- and a format that is given once, as the integer 0, left out
+-- the two defaults: format is 0 when absent, and prio is plus zero, in any of its three forms
+pub data Default : List ℕ → Element → Type 0 where
+  format : Default (bytes "format") (whole (pos 0))
+  prio : Default (bytes "prio") (whole (pos 0))
+  prio32 : Default (bytes "prio") (single 0)
+  prio64 : Default (bytes "prio") (double 0)
+
+-- and a default that is given once left out
 pub data Changed (c : ℕ) : Pairs → Pairs → Type 0 where
   rearranged : {ps qs : Pairs} → Rearranged c ps qs → Changed c ps qs
-  left-out : {k v : Tree} {ps : Pairs} → keyOf k ≡ bytes "format" → meaningOf v ≡ whole (pos 0)
-      → saidOf (bytes "format") (meaningOfPairs ps) ≡ Said.absent → Changed c (pair k v ps) ps
+  left-out : {k v : Tree} {ps : Pairs} → Default (keyOf k) (meaningOf v) → saidOf (keyOf k) (meaningOfPairs ps) ≡ Said.absent → Changed c (pair k v ps) ps
   next : {ps qs rs : Pairs} → Changed c ps qs → Changed c qs rs → Changed c ps rs
   back : {ps qs : Pairs} → Changed c ps qs → Changed c qs ps
 
@@ -72,7 +79,7 @@ pub record Known (c : ℕ) (ps : Pairs) : Type 0 where
   pub name : List ℕ
   pub said : commandSaid (saidOf (bytes "command") (meaningOfPairs ps)) ≡ some name
   pub is : commandOf name ≡ c
-  pub ours : c < 21
+  pub ours : c < 24
 
 -- the payload s, within our limits, is an outer map of these pairs
 pub record Carries (s : List ℕ) (ps : Pairs) : Type 0 where

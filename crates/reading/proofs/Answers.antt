@@ -21,9 +21,9 @@ use Rattle.record.specs.declared.{Message.Message, Told.Told}
 use Rattle.record.specs.{Record.messageOf, Record.dataOf, Reading.readingUnless, code.Places.readingAt, code.Places.answerBy, code.Places.answerAt}
 use Rattle.record.specs.Meant.{Answered, refusedAt, refuses, answerOf, lentSize, Meant}
 use Rattle.record.proofs.Answered.{answer-meant}
-use Rattle.reading.specs.code.Ways.{lentAfter, fieldsBy, namedBy, steppedBy}
+use Rattle.reading.specs.code.Ways.{Enters, lentAfter, fieldsBy, namedBy, steppedBy}
 use Rattle.reading.specs.Framed.{MeantFramed}
-use Rattle.reading.proofs.{Lending.lent-is, Framing.refused-meant, Framing.whole-meant}
+use Rattle.reading.proofs.{Lending.enters, Lending.lent-is, Framing.refused-meant, Framing.whole-meant}
 
 -- what is told, and the lent bytes afterwards
 abbrev answer : Told → List ℕ → Answered
@@ -50,29 +50,32 @@ module _ (s places : List ℕ) (c : ℕ) (g : Graded) (user : List ℕ) (eg : _�
   fields-refused n t z e q =
       ap (λ (y : Told). answer y d) (q ∙ ap (λ (k : ℕ). refusedAt k 0) e) ∙ (simp (ne-eqb (g .worst) 0 z) at by-worst)
 
-  pub fields-read : (l : List ℕ) → g .worst ≡ 0 → l ≡ lentAfter s (getD places 18 0) (g .message .body) user d
+  pub fields-enter : (m : Message) → m ≡ g .message → Enters s places (m .body)
+  fields-enter m e = subst (λ (x : Message). Enters s places (x .body)) (sym (e ∙ message-is)) (enters s places d c)
+
+  pub fields-read : (l : List ℕ) → g .worst ≡ 0 → l ≡ lentAfter s places (g .message .body) user d
       → answer (record { refusal = 0; place = 0; count = count; message = g .message }) l ≡ fieldsBy s places c count d
   unfolding readOf
   fields-read l z e =
       let a : l ≡ putAt d 0 (dataOf c look) =
-      e ∙ ap (λ (x : Read). lentAfter s (getD places 18 0) (x .graded .message .body) (x .user) d) eg
+      e ∙ ap (λ (x : Read). lentAfter s places (x .graded .message .body) (x .user) d) eg
       ∙ lent-is s places d c (omega (arith, worst-is)) in
       ap₂ (λ (y : Message) (v : List ℕ). answer (record { refusal = 0; place = 0; count = count; message = y }) v) message-is a ∙ (rw z at by-worst)
 
 -- the command
 module _ (s places : List ℕ) (count : ℕ) (d : List ℕ) (k : ℕ) (is-number : k ≡ commandAt s (getD places 0 0)) where
-  pub named-known : (a : Answered) → k < 21 → a ≡ fieldsBy s places k count d → a ≡ namedBy s places count d
+  pub named-known : (a : Answered) → k < 24 → a ≡ fieldsBy s places k count d → a ≡ namedBy s places count d
   unfolding namedBy readingAt fieldsBy
-  named-known a h e = e ∙ sym (rw (← is-number) (simp (lt-ltb k 21 h)))
+  named-known a h e = e ∙ sym (rw (← is-number) (simp (lt-ltb k 24 h)))
 
-  module _ (t : Told) (h : 21 ≤ k) where
-    pub named-other : k ≡ 21 → t ≡ refusedAt 12 0 → answer t d ≡ namedBy s places count d
+  module _ (t : Told) (h : 24 ≤ k) where
+    pub named-other : k ≡ 24 → t ≡ refusedAt 12 0 → answer t d ≡ namedBy s places count d
     unfolding namedBy readingAt
-    named-other z e = ap (λ (y : Told). answer y d) e ∙ sym (rw (← is-number) (simp (le-ltb k 21 h, eq-eqb k 21 z)))
+    named-other z e = ap (λ (y : Told). answer y d) e ∙ sym (rw (← is-number) (simp (le-ltb k 24 h, eq-eqb k 24 z)))
 
-    pub named-none : (k ≡ 21 → ⊥) → t ≡ refusedAt 11 0 → answer t d ≡ namedBy s places count d
+    pub named-none : (k ≡ 24 → ⊥) → t ≡ refusedAt 11 0 → answer t d ≡ namedBy s places count d
     unfolding namedBy readingAt
-    named-none z e = ap (λ (y : Told). answer y d) e ∙ sym (rw (← is-number) (simp (le-ltb k 21 h, ne-eqb k 21 z)))
+    named-none z e = ap (λ (y : Told). answer y d) e ∙ sym (rw (← is-number) (simp (le-ltb k 24 h, ne-eqb k 24 z)))
 
 -- the walk's answer
 module _ (s places d : List ℕ) (x : Step) where
@@ -89,7 +92,7 @@ module _ (s places d : List ℕ) (x : Step) where
     unfolding steppedBy
     stepped-named a l e = e ∙ sym (rw h (simp (le-ltb at (length s) l)))
 
-pub ruleset ways = (fields-refused, fields-read, named-known, named-other, named-none, stepped-broken, stepped-more, stepped-named)
+pub ruleset ways = (fields-refused, fields-enter, fields-read, named-known, named-other, named-none, stepped-broken, stepped-more, stepped-named)
 
 -- the walk and the places, together
 step-answer : (s d : List ℕ) (x : Step) → steppedBy s (placesOf s) d x ≡ answerBy s d x

@@ -1,6 +1,6 @@
--- The bytes that are lent beside a record without faults are its long bytes: ulData's stand in the room that they were read into, statusRsp's text at its place,
--- and no other command has any. Assumes nothing.
-use mathlib.Core.Path.{_≡_, refl, sym, ap, _∙_}
+-- The bytes that are lent beside a record without faults are its long bytes: ulData's stand in the room that they were read into, statusRsp's text and dlDataQue's
+-- counters and data entries at their places, and no other command has any. Assumes nothing.
+use mathlib.Core.Path.{_≡_, refl, sym, ap, ap₂, subst, _∙_}
 use mathlib.Core.{Bool.Bool, Bool.true, Bool.false, Option.Option, Option.some, Option.none}
 use mathlib.Core.List.{List, [], _∷_, _++_}
 use Prim.Native.Nat.{ℕ, zero, suc, _+_, _-_, min, max, _≤_, _<_}
@@ -8,32 +8,33 @@ use native.Mathlib.Omega.{arith}
 use lib.{Dec.leb, Seq.take-all, Seq.length-take-le, Seq.take-append-seam}
 use lib.ListN.{length, getD, take, drop, replicate}
 use borrow.Author.Tests.{leb-true, leb-false}
-use Rattle.octets.specs.{Choice.either, Bytes.putAt}
+use Rattle.octets.specs.{Choice.either, Bytes.putAt, Pieces.downlinkBytes}
 use Rattle.octets.proofs.Writing.{put-none}
 use Rattle.forms.specs.code.Put.{Put, put, putPart, putParts}
 use Rattle.names.specs.{Names.nameAt, Names.placeIn, code.Slots.keys, code.Slots.slotOf}
 use Rattle.field.specs.Kind.{Kind, Value, userBytes, statusText}
-use Rattle.field.specs.{Judge.judge, Cell.Cell, Cell.judged, code.At.shallowAt, code.At.cellAt, code.At.stringFilled, code.Into.readInto}
+use Rattle.field.specs.Cell.{Cell, judged, valueIn, wordOf, viewsOf}
+use Rattle.field.specs.{Judge.judge, code.At.shallowAt, code.At.seenAt, code.At.cellAt, code.At.stringFilled, code.Into.readInto}
 use Rattle.field.proofs.Intos.{into-good}
 use Rattle.message.specs.Fields.{Field, lists, listIn, fieldsOf}
 use Rattle.message.specs.{code.Cells.cellsAt, Record.wordIn, Record.stringOf}
 use Rattle.message.specs.Reading.{cellFault, graded, gravest, lookIn}
-use Rattle.record.specs.declared.{Con.Con, ConRsp.ConRsp, StatusRsp.StatusRsp, Det.Det, AttPrp.AttPrp, UlData.UlData, Body.Body}
-use Rattle.record.specs.Record.{bytesIn, bodyIn, messageOf, lentKeys, dataOf}
+use Rattle.record.specs.declared.{Con.Con, ConRsp.ConRsp, StatusRsp.StatusRsp, Det.Det, AttPrp.AttPrp, UlData.UlData, DlDataQue.DlDataQue, Body.Body}
+use Rattle.record.specs.Record.{bytesIn, countsIn, stringsIn, bodyIn, messageOf, lentKeys, dataOf}
 use Rattle.record.proofs.{Commands.Command, Commands.command, Commands.Past.past}
-use Rattle.record.proofs.Commands.Command.{con, con-rsp, status-rsp, det, det-rsp, att-prp, det-prp, ul-data, bare}
+use Rattle.record.proofs.Commands.Command.{con, con-rsp, status-rsp, det, det-rsp, att-prp, det-prp, ul-data, dl-data-que, bare}
 use Rattle.bodies.specs.code.Read.{userAfter, lookFor}
 use Rattle.bodies.proofs.{Values.IsString, Values.arrays-are, Values.texts-put, Bytes.put-zeros}
-use Rattle.reading.specs.code.Ways.{lentAfter}
+use Rattle.reading.specs.code.Ways.{Enters, lentAfter}
 
 -- a mandatory field without a fault
-good-here : (k : Kind) (s : List ℕ) (p i : ℕ) → graded (cellFault true (cellAt k s p)) i ≡ 0 → {A : Type 0} → ((v : Value) → judge k (shallowAt s p) ≡ some v → cellAt k s p ≡ Cell.good v → A) → A
+good-here : (k : Kind) (s : List ℕ) (p i : ℕ) → graded (cellFault true (cellAt k s p)) i ≡ 0 → {A : Type 0} → ((v : Value) → judge k (seenAt k s p) ≡ some v → cellAt k s p ≡ Cell.good v → A) → A
 unfolding cellAt
 good-here k s zero i e f = absurd (omega arith)
 good-here k s (suc zero) i e f = absurd (omega arith)
-good-here k s (suc (suc p)) i e {A} f = go (judge k (shallowAt s (suc (suc p)))) refl e
+good-here k s (suc (suc p)) i e {A} f = go (judge k (seenAt k s (suc (suc p)))) refl e
   where
-    go : (o : Option Value) → judge k (shallowAt s (suc (suc p))) ≡ o → graded (cellFault true (judged o)) i ≡ 0 → A
+    go : (o : Option Value) → judge k (seenAt k s (suc (suc p))) ≡ o → graded (cellFault true (judged o)) i ≡ 0 → A
     go none q z = absurd (omega arith)
     go (some v) q z = f v q (ap judged q)
 
@@ -78,7 +79,7 @@ module _ (s at d : List ℕ) where
   abbrev Lent : ℕ → Type 0
   Lent c =
       gravest 0 0 (fieldsOf c) (cellsAt (fieldsOf c) s at) ≡ 0
-      → lentAfter s (getD at 18 0) (messageOf c (lookFor s at c) .body) (userAfter s at c (replicate 245 0)) d ≡ putAt d 0 (dataOf c (lookFor s at c))
+      → lentAfter s at (messageOf c (lookFor s at c) .body) (userAfter s at c (replicate 245 0)) d ≡ putAt d 0 (dataOf c (lookFor s at c))
 
   by-command : {c : ℕ} → Command c → Lent c
   unfolding lentAfter messageOf bodyIn dataOf lentKeys nameAt gravest cellsAt lookIn lists listIn slotOf placeIn keys
@@ -90,7 +91,24 @@ module _ (s at d : List ℕ) where
   by-command att-prp e = sym (put-none d 0)
   by-command det-prp e = sym (put-none d 0)
   by-command ul-data e = ap (putAt d 0) (user-lent s (getD at 43 0) 10 (each-none 10 0 0 (fieldsOf 7) (cellsAt (fieldsOf 7) s at) e))
-  by-command (bare (past i)) e = sym (put-none d 0)
+  by-command dl-data-que e = refl
+  by-command (bare (past i) q) e = rw q (sym (put-none d 0))
+
+  enters-by : {c : ℕ} → Command c → Enters s at (messageOf c (lookFor s at c) .body)
+  unfolding messageOf bodyIn cellsAt lookIn lists listIn slotOf placeIn keys
+  enters-by con = tt
+  enters-by con-rsp = tt
+  enters-by status-rsp = tt
+  enters-by det = tt
+  enters-by det-rsp = tt
+  enters-by att-prp = tt
+  enters-by det-prp = tt
+  enters-by ul-data = tt
+  enters-by dl-data-que = refl
+  enters-by (bare (past i) q) = rw q tt
+
+  pub enters : (c : ℕ) → Enters s at (messageOf c (lookFor s at c) .body)
+  enters c = enters-by (command c)
 
   pub lent-is : (c : ℕ) → Lent c
   lent-is c = by-command (command c)
@@ -123,42 +141,56 @@ module _ (user : List ℕ) (w n : ℕ) (e : n ≡ min w (length user)) where
 
 pub ruleset firsts = (few-taken, first-put)
 
-module _ (s : List ℕ) (p : ℕ) (b : Body) (user d : List ℕ) where
-  pub lend-con : (x : Con) → b ≡ Body.Con x → d ≡ lentAfter s p b user d
+module _ (s at : List ℕ) (b : Body) (user d : List ℕ) where
+  pub lend-con : (x : Con) → b ≡ Body.Con x → d ≡ lentAfter s at b user d
   unfolding lentAfter
   lend-con x e = rw e
 
-  pub lend-con-rsp : (x : ConRsp) → b ≡ Body.ConRsp x → d ≡ lentAfter s p b user d
+  pub lend-con-rsp : (x : ConRsp) → b ≡ Body.ConRsp x → d ≡ lentAfter s at b user d
   unfolding lentAfter
   lend-con-rsp x e = rw e
 
-  pub lend-det : (x : Det) → b ≡ Body.Det x → d ≡ lentAfter s p b user d
+  pub lend-det : (x : Det) → b ≡ Body.Det x → d ≡ lentAfter s at b user d
   unfolding lentAfter
   lend-det x e = rw e
 
-  pub lend-det-rsp : (x : ℕ) → b ≡ Body.DetRsp x → d ≡ lentAfter s p b user d
+  pub lend-det-rsp : (x : ℕ) → b ≡ Body.DetRsp x → d ≡ lentAfter s at b user d
   unfolding lentAfter
   lend-det-rsp x e = rw e
 
-  pub lend-att-prp : (x : AttPrp) → b ≡ Body.AttPrp x → d ≡ lentAfter s p b user d
+  pub lend-att-prp : (x : AttPrp) → b ≡ Body.AttPrp x → d ≡ lentAfter s at b user d
   unfolding lentAfter
   lend-att-prp x e = rw e
 
-  pub lend-det-prp : (x : ℕ) → b ≡ Body.DetPrp x → d ≡ lentAfter s p b user d
+  pub lend-det-prp : (x : ℕ) → b ≡ Body.DetPrp x → d ≡ lentAfter s at b user d
   unfolding lentAfter
   lend-det-prp x e = rw e
 
-  pub lend-bare : (x : ℕ) → b ≡ Body.Bare x → d ≡ lentAfter s p b user d
+  pub lend-bare : (x : ℕ) → b ≡ Body.Bare x → d ≡ lentAfter s at b user d
   unfolding lentAfter
   lend-bare x e = rw e
 
   module _ (out : List ℕ) where
-    pub lend-status : (x : StatusRsp) → b ≡ Body.StatusRsp x → out ≡ stringFilled (judge (Kind.texts 0 (length d)) (shallowAt s p)) d → out ≡ lentAfter s p b user d
-    unfolding lentAfter
-    lend-status x e q = rw e q
+    pub lend-status : (x : StatusRsp) → b ≡ Body.StatusRsp x → (p : ℕ) → p ≡ getD at 18 0 → out ≡ stringFilled (judge (Kind.texts 0 (length d)) (shallowAt s p)) d
+        → out ≡ lentAfter s at b user d
+    unfolding lentAfter slotOf placeIn keys
+    lend-status x e p g q = rw e (q ∙ ap (λ (n : ℕ). stringFilled (judge (Kind.texts 0 (length d)) (shallowAt s n)) d) g)
 
-    pub lend-ul-data : (x : UlData) → b ≡ Body.UlData x → out ≡ putAt d 0 (take (x .«user_len») user) → out ≡ lentAfter s p b user d
+    pub lend-ul-data : (x : UlData) → b ≡ Body.UlData x → out ≡ putAt d 0 (take (x .«user_len») user) → out ≡ lentAfter s at b user d
     unfolding lentAfter
     lend-ul-data x e q = rw e q
 
-pub ruleset lends = (lend-con, lend-con-rsp, lend-det, lend-det-rsp, lend-att-prp, lend-det-prp, lend-bare, lend-status, lend-ul-data)
+    module _ (x : DlDataQue) (e : b ≡ Body.DlDataQue x) (p : ℕ) (h : p ≡ getD at 43 0) where
+      pub lend-entries : Enters s at b → x .entries ≡ wordOf (valueIn (cellAt (Kind.pieces 16 245 800) s p))
+      unfolding slotOf placeIn keys
+      lend-entries n = subst (Enters s at) e n ∙ ap (λ (k : ℕ). wordIn (cellAt (Kind.pieces 16 245 800) s k)) (sym h)
+
+      pub lend-downlink : (q : ℕ) → q ≡ getD at 29 0
+          → out ≡ putAt d 0 (downlinkBytes (viewsOf (valueIn (cellAt (Kind.counters 16) s q)) .counts) (viewsOf (valueIn (cellAt (Kind.pieces 16 245 800) s p)) .strings))
+          → out ≡ lentAfter s at b user d
+      unfolding lentAfter slotOf placeIn keys
+      lend-downlink q g z =
+          rw e
+          (z ∙ ap₂ (λ (k l : ℕ). putAt d 0 (downlinkBytes (countsIn (cellAt (Kind.counters 16) s k)) (stringsIn (cellAt (Kind.pieces 16 245 800) s l)))) g h)
+
+pub ruleset lends = (lend-con, lend-con-rsp, lend-det, lend-det-rsp, lend-att-prp, lend-det-prp, lend-bare, lend-status, lend-ul-data, lend-entries, lend-downlink)

@@ -7,15 +7,17 @@ use octets::refusals;
 use record::Body;
 use record::Told;
 ghost use mathlib.Core.Path.{_≡_};
-ghost use Prim.Native.Nat.{_-_, _/_, min};
-ghost use lib.ListN.{take};
+ghost use Prim.Native.Nat.{_-_, _/_, _≤_, min};
+ghost use lib.ListN.{length, take};
 ghost use Rattle.octets.specs.Bytes.{putAt};
-ghost use Rattle.record.specs.Meant.{Answered, refusedAt, Meant};
+ghost use Rattle.record.specs.Meant.{Answered, refusedAt, lentSize, Meant};
 ghost use Rattle.reading.specs.Framed.{MeantFramed};
-ghost use Rattle.reading.specs.code.Ways.{lentAfter, fieldsBy, namedBy, steppedBy};
+ghost use Rattle.reading.specs.code.Ways.{Enters, lentAfter, fieldsBy, namedBy, steppedBy};
 
-// So many lent bytes are enough for every message's.
-const LENT_SIZE: usize = 245;
+// So many lent bytes are enough for every message's; and so many for ulData's.
+const LENT_SIZE: usize = 880;
+
+const USER_SIZE: usize = 245;
 
 // What was read at the start of an input, and how many bytes of it: a frame's, or 0 where there is no whole frame.
 pub struct Unframed {
@@ -69,6 +71,7 @@ fn refused(number: u8, place: usize) -> Told
 
 // By the walk's answer. 10: bytes are left over.
 fn stepped(s: &[u8], step: Step, places: &[u16; 64], d: &mut [u8]) -> Told
+    requires { ⌜ lentSize ≤ length (now d) ⌝ }
     ensures { λ r. ⌜ _≡_ {A = Answered} (record { told = r; lent = now (d .exit) }) (steppedBy (now (s .entry)) (now (places .entry)) (now (d .entry)) step) ⌝ }
 {
     match step {
@@ -82,8 +85,9 @@ fn stepped(s: &[u8], step: Step, places: &[u16; 64], d: &mut [u8]) -> Told
     }
 }
 
-// By the command's text. 12: not among the 21. 11: no one text.
+// By the command's text. 12: not among the 24. 11: no one text.
 fn named(s: &[u8], places: &[u16; 64], count: usize, d: &mut [u8]) -> Told
+    requires { ⌜ lentSize ≤ length (now d) ⌝ }
     ensures { λ r. ⌜ _≡_ {A = Answered} (record { told = r; lent = now (d .exit) }) (namedBy (now (s .entry)) (now (places .entry)) count (now (d .entry))) ⌝ }
 {
     let command = notes::command_at(s, places[slots::COMMAND]);
@@ -98,16 +102,17 @@ fn named(s: &[u8], places: &[u16; 64], count: usize, d: &mut [u8]) -> Told
 
 // The fields of a command that we know: the record, if none has a fault.
 fn fields(s: &[u8], places: &[u16; 64], command: u8, count: usize, d: &mut [u8]) -> Told
+    requires { ⌜ lentSize ≤ length (now d) ⌝ }
     ensures { λ r. ⌜ _≡_ {A = Answered} (record { told = r; lent = now (d .exit) }) (fieldsBy (now (s .entry)) (now (places .entry)) command count (now (d .entry))) ⌝ }
 {
-    let mut user = [0u8; LENT_SIZE];
+    let mut user = [0u8; USER_SIZE];
     let g = bodies::read(s, places, command, &mut user);
     if g.worst != 0 {
         return refused(number_of(g.worst), 0);
     }
     let m = g.message;
     let b = m.body;
-    lend(s, places[slots::MESSAGE], b, &user, d);
+    lend(s, places, b, &user, d);
     Told {
         refusal: 0,
         place: 0,
@@ -116,21 +121,36 @@ fn fields(s: &[u8], places: &[u16; 64], command: u8, count: usize, d: &mut [u8])
     }
 }
 
-// The long bytes of a record, at the start of d: those of ulData were read into a room, those of statusRsp stand where its text is.
-fn lend(s: &[u8], text: u16, b: Body, user: &[u8; 245], d: &mut [u8])
-    ensures { λ _. ⌜ now (d .exit) ≡ lentAfter (now (s .entry)) text b (now (user .entry)) (now (d .entry)) ⌝ }
+// The long bytes of a record, at the start of d: those of ulData were read into a room, those of statusRsp and of dlDataQue stand where their fields are.
+fn lend(s: &[u8], places: &[u16; 64], b: Body, user: &[u8; 245], d: &mut [u8])
+    requires { ⌜ Enters (now s) (now places) b × (lentSize ≤ length (now d)) ⌝ }
+    ensures { λ _. ⌜ now (d .exit) ≡ lentAfter (now (s .entry)) (now (places .entry)) b (now (user .entry)) (now (d .entry)) ⌝ }
 {
     match b {
         Body::Con(_) => {}
         Body::ConRsp(_) => {}
-        Body::StatusRsp(_) => field::text_into(s, text as usize, d),
+        Body::StatusRsp(_) => field::text_into(s, wide(places[slots::MESSAGE]), d),
         Body::Det(_) => {}
         Body::DetRsp(_) => {}
         Body::AttPrp(_) => {}
         Body::DetPrp(_) => {}
         Body::UlData(x) => put_first(user, x.user_len, d),
+        Body::DlDataQue(x) => field::downlink_into(
+            s,
+            wide(places[slots::PACKET_CNT]),
+            wide(places[slots::USER_DATA]),
+            x.entries as usize,
+            d,
+        ),
         Body::Bare(_) => {}
     }
+}
+
+// A place as an index.
+fn wide(place: u16) -> usize
+    ensures { λ r. ⌜ r ≡ place ⌝ }
+{
+    place as usize
 }
 
 fn few(n: usize, most: usize) -> usize

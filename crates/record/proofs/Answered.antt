@@ -25,13 +25,13 @@ module _ (s places : List ℕ) (fs : Fields) (h : Agrees s places fs) where
   numbered-reading : (n : Option (List ℕ)) → readingNumbered s places (numbered n) ≡ readingNamed n (λ k. saidOf k fs)
   unfolding readingAs
   numbered-reading none = refl
-  numbered-reading (some n) = go (ltb (commandOf n) 21) refl
+  numbered-reading (some n) = go (ltb (commandOf n) 24) refl
     where
-      go : (t : Bool) → ltb (commandOf n) 21 ≡ t → readingNumbered s places (commandOf n) ≡ readingNamed (some n) (λ k. saidOf k fs)
+      go : (t : Bool) → ltb (commandOf n) 24 ≡ t → readingNumbered s places (commandOf n) ≡ readingNamed (some n) (λ k. saidOf k fs)
       go true t = rw t (ap (readingBy (commandOf n) (fieldsOf (commandOf n))) (same-cells s places fs h (fieldsOf (commandOf n)) (fields-known (commandOf n))))
       go false t =
-          let e : commandOf n ≡ 21 = omega (arith, ltb-false (commandOf n) 21 t, command-small n) in
-          rw (t, eq-eqb (commandOf n) 21 e)
+          let e : commandOf n ≡ 24 = omega (arith, ltb-false (commandOf n) 24 t, command-small n) in
+          rw (t, eq-eqb (commandOf n) 24 e)
 
   pub same-reading : readingAt s places ≡ readingOf fs
   unfolding readingAt readingOf keys nameAt

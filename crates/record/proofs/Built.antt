@@ -6,34 +6,40 @@ use mathlib.Core.List.{List, [], _∷_, _++_}
 use mathlib.Core.Option.{some}
 use Prim.Native.Nat.{ℕ, _-_, _^_, _≤_}
 use native.Mathlib.Omega.{arith}
-use lib.{Dec.T, Dec.ltb, ListN.length, ListN.take, Seq.take-append-seam}
+use lib.{Dec.T, Dec.ltb, ListN.length, ListN.take, ListN.drop, Seq.take-append-seam}
 use Rattle.octets.proofs.Ranges.{is-true}
 use Rattle.names.specs.Names.{bytes, nameAt, commands}
-use Rattle.field.specs.{Kind.Kind, Cell.Said, Cell.Cell, Cell.here}
-use Rattle.message.specs.{Fields.lists, Fields.listIn, Fields.fieldsOf, Record.wordIn, Record.markIn}
-use Rattle.message.specs.{Reading.placeAmong, Reading.crossed, Reading.commandSaid}
-use Rattle.message.proofs.KeyKinds.{passes, kindFor, lacks}
-use Rattle.saying.specs.{Says.Saying, Says.mark, Says.string, Fits.isSized}
-use Rattle.saying.proofs.{Fair.Fair, Fair.isKept, Sorts.sized-most, Shown.AllFit, Crossed.no-cross}
+use Rattle.field.specs.{Kind.Kind, Kind.signed64, Cell.Said, Cell.Cell, Cell.here}
+use Rattle.message.specs.Fields.{Field, headed, received, lists, listIn, fieldsOf}
+use Rattle.message.specs.Record.{wordIn, idIn, markIn}
+use Rattle.message.specs.{Reading.placeAmong, Reading.isUnopened, Reading.isMiscounted, Reading.crossed, Reading.commandSaid}
+use Rattle.message.proofs.KeyKinds.{passes, kindBy, id-kind, lacks}
+use Rattle.saying.specs.{Says.Saying, Says.id, Says.mark, Says.string, Fits.isSized}
+use Rattle.saying.proofs.{Fair.Fair, Fair.isKept, Sorts.sized-most, Shown.AllFit, Crossed.unbroken, Crossed.no-cross}
 use Rattle.saying.proofs.Found.{AllSound, found, found-none, fair}
 use Rattle.saying.proofs.Fitted.{neededIn, isNeeded, areKept, _and_, IsMade, AllMade, command-made, there, made-fit}
-use Rattle.saying.proofs.Made.{word-made, maybe-word-made, id-made, maybe-id-made, mark-made, real-made, maybe-real-made, maybe-place-made, unless-zero-made}
-use Rattle.record.specs.Record.{bytesIn, packetOf, bodies, bodyIn, messageOf, lentKeys, dataOf, commandIn}
+use Rattle.saying.proofs.Made.{isMade, word-made, maybe-word-made, id-made, maybe-id-made, mark-made, real-made, maybe-real-made, maybe-mark-made, maybe-place-made, unless-zero-made, unless-plus-zero-made}
+use Rattle.record.specs.Record.{bytesIn, packetOf, bodyIn, bodyOf, messageOf, lentKeys, dataOf, commandIn}
 use Rattle.record.specs.Says.{tested, isNamed, packetSayings, bodySayings, sayingsOf}
 use Rattle.record.specs.{Fits.fits, Lent.lentBy, Lent.lentOf}
 use Rattle.record.proofs.{Faultless.all-fit, Commands.Command, Commands.command, Commands.past-bare, Commands.Past.past, Listed.kept-rows}
-use Rattle.record.proofs.Commands.Command.{con, con-rsp, status-rsp, det, det-rsp, att-prp, det-prp, ul-data, bare}
+use Rattle.record.proofs.Commands.Command.{con, con-rsp, status-rsp, det, det-rsp, att-prp, det-prp, ul-data, dl-data-que, bare}
+use Rattle.record.proofs.Downlinks.{agreed, entries-made, counters-made, downlink-lends}
 use Rattle.record.proofs.Made.{tested-is, version-made, sixteen-made, four-made, profile-made, message-made, data-made}
 
-module _ (look : List ℕ → Cell) (held : (u : List ℕ) → T (isKept (kindFor u)) → Fair (kindFor u) (look u)) where
-  -- the parts of a packet, and what comes behind them
-  abbrev MadeThen : List Saying → Type 0 → Type 0
-  MadeThen [] B = B
-  MadeThen (r ∷ rs) B = IsMade look (r .key) (r .part) × MadeThen rs B
+-- the cells of a list's kinds
+abbrev Held : List Field → (List ℕ → Cell) → Type 0
+Held l look = (u : List ℕ) → T (isKept (kindBy l u)) → Fair (kindBy l u) (look u)
 
-  packet-made : {B : Type 0} → B → MadeThen (packetSayings (packetOf look) []) B
-  unfolding kindFor lists isNeeded
-  packet-made others =
+module _ (look : List ℕ → Cell) where
+  -- the parts of a packet, and what comes behind them
+  abbrev MadeThen : List Field → List Saying → Type 0 → Type 0
+  MadeThen l [] B = B
+  MadeThen l (r ∷ rs) B = T (isMade (isNeeded (r .key)) (kindBy l (r .key)) (look (r .key)) (r .part)) × MadeThen l rs B
+
+  packet-made : {B : Type 0} (fs : List Field) → Held (headed (received fs)) look → B → MadeThen (headed (received fs)) (packetSayings (packetOf look) []) B
+  unfolding lists isNeeded
+  packet-made fs held others =
       word-made true (2 ^ 64 - 1) (held (bytes "epEui") tt) and
       word-made true (2 ^ 64 - 1) (held (bytes "rxTime") tt) and
       maybe-word-made false (2 ^ 64 - 1) (held (bytes "rxDuration") tt) and
@@ -47,15 +53,15 @@ module _ (look : List ℕ → Cell) (held : (u : List ℕ) → T (isKept (kindFo
   abbrev uncrossed : Bool
   uncrossed = not (markIn (look (bytes "responseExp"))) || markIn (look (bytes "dlOpen"))
 
-  answer-made : T uncrossed → IsMade look (bytes "responseExp") (tested uncrossed (mark (markIn (look (bytes "responseExp")))))
-  unfolding kindFor lists isNeeded
-  answer-made t = rw (tested-is uncrossed (mark (markIn (look (bytes "responseExp")))) t) (mark-made true (held (bytes "responseExp") tt))
+  answer-made : Fair Kind.flags (look (bytes "responseExp")) → T uncrossed
+      → T (isMade true Kind.flags (look (bytes "responseExp")) (tested uncrossed (mark (markIn (look (bytes "responseExp"))))))
+  answer-made f t = rw (tested-is uncrossed (mark (markIn (look (bytes "responseExp")))) t) (mark-made true f)
 
-  module _ (t : List ℕ) (opens : T uncrossed) where
-    body-made : {c : ℕ} → Command c → ((u : List ℕ) → T (neededIn (fieldsOf c) u) → T (here (look u)))
-        → AllMade look (bodySayings (bodyIn (bodies look) c c) (dataOf c look ++ t))
-    unfolding bodyIn bodySayings dataOf lentKeys nameAt kindFor lists listIn isNeeded
-    body-made con there =
+  module _ (t : List ℕ) (opens : isUnopened look ≡ false) (counts : isMiscounted look ≡ false) where
+    body-made : {c : ℕ} → Command c → Held (fieldsOf c) look → ((u : List ℕ) → T (neededIn (fieldsOf c) u) → T (here (look u)))
+        → AllMade c look (bodySayings (bodyOf c look) (dataOf c look ++ t))
+    unfolding bodyIn bodySayings dataOf lentKeys nameAt lists listIn isNeeded
+    body-made con held there =
         version-made true (held (bytes "version") tt) and
         word-made true (2 ^ 64 - 1) (held (bytes "bsEui") tt) and
         mark-made true (held (bytes "bidi") tt) and
@@ -64,13 +70,13 @@ module _ (look : List ℕ → Cell) (held : (u : List ℕ) → T (isKept (kindFo
         maybe-id-made false 0 (2 ^ 63 - 1) (held (bytes "snBsOpId") tt) and
         maybe-id-made false (2 ^ 63) 0 (held (bytes "snScOpId") tt) and
         tt
-    body-made con-rsp there =
+    body-made con-rsp held there =
         version-made true (held (bytes "version") tt) and
         word-made true (2 ^ 64 - 1) (held (bytes "scEui") tt) and
         mark-made true (held (bytes "snResume") tt) and
         sixteen-made true (held (bytes "snScUuid") tt) and
         tt
-    body-made status-rsp there =
+    body-made status-rsp held there =
         id-made true (2 ^ 31) (2 ^ 31 - 1) (held (bytes "code") tt) and
         message-made true 64 t (held (bytes "message") tt) (there (bytes "message") tt) and
         word-made true (2 ^ 64 - 1) (held (bytes "time") tt) and
@@ -81,9 +87,9 @@ module _ (look : List ℕ → Cell) (held : (u : List ℕ) → T (isKept (kindFo
         maybe-real-made false (held (bytes "cpuLoad") tt) and
         maybe-real-made false (held (bytes "memLoad") tt) and
         tt
-    body-made det there = packet-made (four-made true (held (bytes "sign") tt) and tt)
-    body-made det-rsp there = four-made true (held (bytes "sign") tt) and tt
-    body-made att-prp there =
+    body-made det held there = packet-made (drop 10 (fieldsOf 3)) held (four-made true (held (bytes "sign") tt) and tt)
+    body-made det-rsp held there = four-made true (held (bytes "sign") tt) and tt
+    body-made att-prp held there =
         word-made true (2 ^ 64 - 1) (held (bytes "epEui") tt) and
         mark-made true (held (bytes "bidi") tt) and
         sixteen-made true (held (bytes "nwkSnKey") tt) and
@@ -94,20 +100,35 @@ module _ (look : List ℕ → Cell) (held : (u : List ℕ) → T (isKept (kindFo
         mark-made true (held (bytes "wideCarrOff") tt) and
         mark-made true (held (bytes "longBlkDist") tt) and
         tt
-    body-made det-prp there = word-made true (2 ^ 64 - 1) (held (bytes "epEui") tt) and tt
-    body-made ul-data there =
-        packet-made
+    body-made det-prp held there = word-made true (2 ^ 64 - 1) (held (bytes "epEui") tt) and tt
+    body-made ul-data held there =
+        packet-made (drop 10 (fieldsOf 7)) held
         (data-made true 245 t (held (bytes "userData") tt) (there (bytes "userData") tt) and
         unless-zero-made 0xFF (held (bytes "format") tt) and
         mark-made true (held (bytes "dlOpen") tt) and
-        answer-made opens and
+        answer-made (held (bytes "responseExp") tt)
+        (no-cross (markIn (look (bytes "responseExp"))) (here (look (bytes "dlOpen"))) (markIn (look (bytes "dlOpen"))) (there (bytes "dlOpen") tt) opens) and
         mark-made true (held (bytes "dlAck") tt) and
         tt)
-    body-made (bare (past i)) there = tt
+    body-made dl-data-que held there =
+        let a = agreed look (held (bytes "packetCnt") tt) (held (bytes "userData") tt) (there (bytes "cntDepend") tt) (there (bytes "userData") tt) counts in
+        word-made true (2 ^ 64 - 1) (held (bytes "epEui") tt) and
+        word-made true (2 ^ 64 - 1) (held (bytes "queId") tt) and
+        mark-made true (held (bytes "cntDepend") tt) and
+        counters-made t true a and
+        entries-made t true a and
+        unless-zero-made 0xFF (held (bytes "format") tt) and
+        unless-plus-zero-made (held (bytes "prio") tt) and
+        maybe-mark-made true (held (bytes "responseExp") tt) and
+        maybe-mark-made false (held (bytes "responsePrio") tt) and
+        maybe-mark-made false (held (bytes "dlWindReq") tt) and
+        maybe-mark-made false (held (bytes "expOnly") tt) and
+        tt
+    body-made (bare (past i) e) held there = rw e tt
 
 module _ (look : List ℕ → Cell) where
   -- the record's command is the one that was read
-  same-command : {c : ℕ} → Command c → (commandIn (bodyIn (bodies look) c c) ≡ c) × (T (ltb c 21) → T (isNamed (bodyIn (bodies look) c c)))
+  same-command : {c : ℕ} → Command c → (commandIn (bodyOf c look) ≡ c) × (T (ltb c 24) → T (isNamed (bodyOf c look)))
   unfolding bodyIn
   same-command con = (refl, λ t. tt)
   same-command con-rsp = (refl, λ t. tt)
@@ -117,23 +138,31 @@ module _ (look : List ℕ → Cell) where
   same-command att-prp = (refl, λ t. tt)
   same-command det-prp = (refl, λ t. tt)
   same-command ul-data = (refl, λ t. tt)
-  same-command (bare (past i)) = (refl, past-bare (past i))
+  same-command dl-data-que = (refl, λ t. tt)
+  same-command (bare (past i) e) = rw e (refl, past-bare (past i) e)
 
 -- the record of a command without a fault
-module _ (said : List ℕ → Said) (c : ℕ) (s : AllSound said (fieldsOf c)) (less : T (ltb c 21)) (x : crossed (fieldsOf c) (found said c) ≡ 0) where
+module _ (said : List ℕ → Said) (c : ℕ) (s : AllSound said (fieldsOf c)) (less : T (ltb c 24)) (x : crossed (fieldsOf c) (found said c) ≡ 0) where
   abbrev own : List ℕ → Cell
   own u = found said c u
 
   module _ (n : List ℕ) (named : commandSaid (said (bytes "command")) ≡ some n) (t : List ℕ) where
-    all-made : AllMade own (sayingsOf (messageOf c own) (dataOf c own ++ t))
-    unfolding messageOf sayingsOf kindFor lists isNeeded
+    id-said : IsMade c own (bytes "opId") (id (idIn (own (bytes "opId"))))
+    unfolding lists isNeeded
+    id-said =
+        let f : Fair signed64 (own (bytes "opId")) = subst (λ (k : Kind). T (isKept k) → Fair k (own (bytes "opId"))) (id-kind c) (fair said c s (bytes "opId")) tt in
+        rw (id-kind c) (id-made true (2 ^ 63) (2 ^ 63 - 1) f)
+
+    all-made : AllMade c own (sayingsOf (messageOf c own) (dataOf c own ++ t))
+    unfolding messageOf sayingsOf lists isNeeded
     all-made =
-        let b = bodyIn (bodies own) c c in
+        let b = bodyOf c own in
         let name = string (nameAt commands (commandIn b)) in
-        let opens = no-cross (markIn (own (bytes "responseExp"))) (markIn (own (bytes "dlOpen"))) (placeAmong (fieldsOf c) (bytes "responseExp")) x in
+        let opens = unbroken (isUnopened own) (placeAmong (fieldsOf c) (bytes "responseExp")) (omega arith) in
+        let counts = unbroken (isMiscounted own) (placeAmong (fieldsOf c) (bytes "packetCnt")) (omega arith) in
         rw (tested-is (isNamed b) name (same-command own (command c) .1 less)) (command-made said c s n (nameAt commands (commandIn b)) named) and
-        id-made true (2 ^ 63) (2 ^ 63 - 1) (fair said c s (bytes "opId") tt) and
-        body-made own (fair said c s) t opens (command c) (there said c s)
+        id-said and
+        body-made own t opens counts (command c) (fair said c s) (there said c s)
 
     pub command-fits : fits (messageOf c own) (dataOf c own ++ t) ≡ true
     unfolding messageOf
@@ -146,7 +175,7 @@ module _ (said : List ℕ → Said) (c : ℕ) (s : AllSound said (fieldsOf c)) (
 
 -- its bytes: the first of those lent, and few
 abbrev Lends : List ℕ → ℕ → List ℕ → Type 0
-Lends t n e = (take n (e ++ t) ≡ e) × (length e ≤ 245)
+Lends t n e = (take n (e ++ t) ≡ e) × (length e ≤ 880)
 
 few-lent : (t d : List ℕ) (lo hi : ℕ) → T (isSized lo hi d) → hi ≤ 245 → Lends t (length d) d
 few-lent t d lo hi w h = (take-append-seam d t, omega (arith, sized-most lo hi d w))
@@ -159,25 +188,30 @@ array-lent : (t : List ℕ) {lo hi : ℕ} {c : Cell} → Fair (Kind.arrays lo hi
 array-lent t (Fair.left k) h = (refl, omega arith)
 array-lent t (Fair.array lo hi d w b) h = few-lent t d lo hi w h
 
-module _ (t : List ℕ) (look : List ℕ → Cell) (held : (u : List ℕ) → T (isKept (kindFor u)) → Fair (kindFor u) (look u)) (empty : look [] ≡ Cell.missing) where
-  lends : {c : ℕ} → Command c → (lentBy (bodyIn (bodies look) c c) (dataOf c look ++ t) ≡ dataOf c look) × (length (dataOf c look) ≤ 245)
-  unfolding bodyIn dataOf lentKeys nameAt kindFor lists
-  lends con = rw empty (refl, omega arith)
-  lends con-rsp = rw empty (refl, omega arith)
-  lends status-rsp = text-lent t (held (bytes "message") tt) (omega arith)
-  lends det = rw empty (refl, omega arith)
-  lends det-rsp = rw empty (refl, omega arith)
-  lends att-prp = rw empty (refl, omega arith)
-  lends det-prp = rw empty (refl, omega arith)
-  lends ul-data = array-lent t (held (bytes "userData") tt) (omega arith)
-  lends (bare (past i)) = rw empty (refl, omega arith)
+module _ (t : List ℕ) (look : List ℕ → Cell) (empty : look [] ≡ Cell.missing) where
+  lends : {c : ℕ} → Command c → Held (fieldsOf c) look → ((u : List ℕ) → T (neededIn (fieldsOf c) u) → T (here (look u))) → isMiscounted look ≡ false
+      → (lentBy (bodyOf c look) (dataOf c look ++ t) ≡ dataOf c look) × (length (dataOf c look) ≤ 880)
+  unfolding bodyIn dataOf lentKeys nameAt lists listIn
+  lends con held there counts = rw empty (refl, omega arith)
+  lends con-rsp held there counts = rw empty (refl, omega arith)
+  lends status-rsp held there counts = text-lent t (held (bytes "message") tt) (omega arith)
+  lends det held there counts = rw empty (refl, omega arith)
+  lends det-rsp held there counts = rw empty (refl, omega arith)
+  lends att-prp held there counts = rw empty (refl, omega arith)
+  lends det-prp held there counts = rw empty (refl, omega arith)
+  lends ul-data held there counts = array-lent t (held (bytes "userData") tt) (omega arith)
+  lends dl-data-que held there counts =
+      downlink-lends t (agreed look (held (bytes "packetCnt") tt) (held (bytes "userData") tt) (there (bytes "cntDepend") tt) (there (bytes "userData") tt) counts)
+  lends (bare (past i) e) held there counts = rw (e, empty) (refl, omega arith)
 
-module _ (said : List ℕ → Said) (c : ℕ) (s : AllSound said (fieldsOf c)) (t : List ℕ) where
+module _ (said : List ℕ → Said) (c : ℕ) (s : AllSound said (fieldsOf c)) (x : crossed (fieldsOf c) (found said c) ≡ 0) (t : List ℕ) where
   -- no list has the empty key
   nothing-there : found said c [] ≡ Cell.missing
   unfolding lists
   nothing-there = found-none said [] c (sym (is-true (lacks (fieldsOf c) []) (passes (λ l. lacks l []) tt c)))
 
-  pub command-lends : (lentOf (messageOf c (found said c)) (dataOf c (found said c) ++ t) ≡ dataOf c (found said c)) × (length (dataOf c (found said c)) ≤ 245)
+  pub command-lends : (lentOf (messageOf c (found said c)) (dataOf c (found said c) ++ t) ≡ dataOf c (found said c)) × (length (dataOf c (found said c)) ≤ 880)
   unfolding messageOf
-  command-lends = lends t (found said c) (fair said c s) nothing-there (command c)
+  command-lends =
+      lends t (found said c) nothing-there (command c) (fair said c s) (there said c s)
+      (unbroken (isMiscounted (found said c)) (placeAmong (fieldsOf c) (bytes "packetCnt")) (omega arith))

@@ -13,3 +13,4 @@ pub mod Built
 pub mod Read
 pub mod Refusals
 pub mod Answers
+pub mod Downlinks

@@ -6,19 +6,19 @@ use mathlib.Core.{List.List, Option.none}
 use Prim.Native.Nat.{ℕ}
 use lib.Dec.{T, eqb, leb, eqb→eq, leb→le}
 use lib.{ListN.length, ListN.take, Seq.length-take-le}
-use Rattle.octets.proofs.Ranges.{both-left, both-right}
+use Rattle.octets.proofs.{Ranges.both-left, Ranges.both-right, Truth.none-some}
 use Rattle.field.specs.{Kind.Kind, Kind.Value, Cell.Cell}
 use Rattle.message.specs.Record.{wordIn}
 use Rattle.message.specs.declared.MaybeVersion.{MaybeVersion}
 use Rattle.saying.specs.Says.{Part, string, releaseValue, noRelease}
 use Rattle.saying.specs.Says as Says
-use Rattle.saying.proofs.{Shown.Shown, Shown.keptBy, Shown.Shown.spoken, Shown.Shown.silent, Rows.some-none}
+use Rattle.saying.proofs.{Shown.Shown, Shown.keptBy, Shown.Shown.spoken, Shown.Shown.silent}
 use Rattle.saying.proofs.{Parts.always-back, Parts.Maybe, Parts.maybe-back, Parts.Maybe.there, Parts.Maybe.absent}
 use Rattle.record.specs.{Record.bytesIn, Record.maybeVersion, Says.tested, Says.lent}
 
 -- a part that says nothing
 pub unsaid : {k : Kind} {p : Part} {c : Cell} → Shown k p c → p .said ≡ none → c ≡ Cell.missing
-unsaid (spoken v e t w) n = some-none (sym e ∙ n)
+unsaid (spoken v e t w) n = none-some (sym n ∙ e)
 unsaid (silent e t) n = refl
 
 -- a part that must pass a test

@@ -26,7 +26,7 @@ refused-reads q = let z : _≡_ {A = ℕ} 0 1 = cc in absurd (omega arith)
 -- the reading of a command without a fault
 record Came (said : List ℕ → Said) (m : Message) (e : List ℕ) : Type 0 where
   number : ℕ
-  less : T (ltb number 21)
+  less : T (ltb number 24)
   sound : AllSound said (fieldsOf number)
   uncrossed : crossed (fieldsOf number) (found said number) ≡ 0
   name : List ℕ
@@ -38,7 +38,7 @@ module _ (said : List ℕ → Said) (n : List ℕ) (named : commandSaid (said (b
   abbrev grade : ℕ → ℕ
   grade c = max (gravest 0 0 (fieldsOf c) (cellsOf (fieldsOf c) said)) (crossed (fieldsOf c) (found said c))
 
-  judged-came : (c g : ℕ) → T (ltb c 21) → grade c ≡ g → readingUnless g (messageOf c (found said c)) (dataOf c (found said c)) ≡ Reading.reads m e → Came said m e
+  judged-came : (c g : ℕ) → T (ltb c 24) → grade c ≡ g → readingUnless g (messageOf c (found said c)) (dataOf c (found said c)) ≡ Reading.reads m e → Came said m e
   judged-came c g h q r = go (eqb g 0) refl r
     where
       go : (b : Bool) → eqb g 0 ≡ b
@@ -57,7 +57,7 @@ module _ (said : List ℕ → Said) (n : List ℕ) (named : commandSaid (said (b
           }
       go false z r = refused-reads r
 
-  named-came : (c : ℕ) (b : Bool) → ltb c 21 ≡ b → either b (λ _. readingAs c said) (λ _. Reading.refused 12) ≡ Reading.reads m e → Came said m e
+  named-came : (c : ℕ) (b : Bool) → ltb c 24 ≡ b → either b (λ _. readingAs c said) (λ _. Reading.refused 12) ≡ Reading.reads m e → Came said m e
   unfolding readingAs
   named-came c true h r = judged-came c (grade c) (rw h tt) refl r
   named-came c false h r = refused-reads r
@@ -69,7 +69,7 @@ module _ (fs : Fields) (m : Message) (e : List ℕ) (r : readingOf fs ≡ Readin
     where
       go : (o : Option (List ℕ)) → commandSaid (saidOf (bytes "command") fs) ≡ o → readingNamed o (λ k. saidOf k fs) ≡ Reading.reads m e → Came (λ k. saidOf k fs) m e
       go none q r = refused-reads r
-      go (some n) q r = named-came (λ k. saidOf k fs) n q m e (commandOf n) (ltb (commandOf n) 21) refl r
+      go (some n) q r = named-came (λ k. saidOf k fs) n q m e (commandOf n) (ltb (commandOf n) 24) refl r
 
   -- with any bytes that begin with those that were read
   pub read-begins : (t : List ℕ) → fits m (e ++ t) ≡ true
@@ -86,7 +86,7 @@ module _ (fs : Fields) (m : Message) (e : List ℕ) (r : readingOf fs ≡ Readin
 
   -- as the lent bytes are after reading: few enough for those that must be lent, they stand at the start, and the record has lent them
   read-lends : (t : List ℕ) → (lentOf m (e ++ t) ≡ e) × (length e ≤ lentSize)
-  read-lends t = let c = came in rw (c .message, c .beside) at (command-lends (λ k. saidOf k fs) (c .number) (c .sound) t)
+  read-lends t = let c = came in rw (c .message, c .beside) at (command-lends (λ k. saidOf k fs) (c .number) (c .sound) (c .uncrossed) t)
 
   module _ (d : List ℕ) (h : lentSize ≤ length d) where
     stands : putAt d 0 e ≡ e ++ drop (0 + length e) d

@@ -1,7 +1,7 @@
 -- No reading is refused with the number 0: the gravest fault is below 256, so 16 less its 64th part is at least 13. By induction over the command's
 -- list. Assumes nothing.
 use mathlib.Core.{Path._≡_, List.List, List.[], List._∷_, Option.Option, Option.some, Option.none}
-use mathlib.Core.Bool.{Bool, true, false, _&&_, not}
+use mathlib.Core.Bool.{Bool, true, false}
 use Prim.Native.Nat.{ℕ, suc, _-_, _/_, _≤_, _<_, max}
 use native.Mathlib.Omega.{arith}
 use lib.Dec.{eqb, ltb}
@@ -9,8 +9,8 @@ use Rattle.octets.specs.Choice.{either}
 use Rattle.element.specs.Meaning.{Fields}
 use Rattle.names.specs.Names.{bytes, commandOf}
 use Rattle.field.specs.Cell.{Said, Cell}
-use Rattle.message.specs.{Fields.Field, Fields.fieldsOf, Record.markIn}
-use Rattle.message.specs.Reading.{saidOf, cellsOf, cellFault, graded, gravest, lookIn, placeAmong, crossed, commandSaid}
+use Rattle.message.specs.Fields.{Field, fieldsOf}
+use Rattle.message.specs.Reading.{saidOf, cellsOf, cellFault, graded, gravest, lookIn, placeAmong, isUnopened, isMiscounted, crossed, commandSaid}
 use Rattle.record.specs.declared.Message.{Message}
 use Rattle.record.specs.Record.{messageOf, dataOf}
 use Rattle.record.specs.Reading.{Reading, readingUnless, readingBy, readingAs, readingNamed, readingOf}
@@ -50,13 +50,14 @@ judged-number g m d n h e = go (eqb g 0) e
 by-number : (c : ℕ) (l : List Field) (cs : List Cell) (n : ℕ) → readingBy c l cs ≡ Reading.refused n → 0 < n
 by-number c l cs n e =
     let look = lookIn Cell.missing l cs in
-    let x = crossed-most (markIn (look (bytes "responseExp")) && not (markIn (look (bytes "dlOpen")))) (placeAmong l (bytes "responseExp")) in
+    let x = crossed-most (isUnopened look) (placeAmong l (bytes "responseExp")) in
+    let y = crossed-most (isMiscounted look) (placeAmong l (bytes "packetCnt")) in
     judged-number (max (gravest 0 0 l cs) (crossed l look)) (messageOf c look) (dataOf c look) n (omega (arith, gravest-most l cs 0 0 (omega arith))) e
 
 named-number : (o : Option (List ℕ)) (said : List ℕ → Said) (n : ℕ) → readingNamed o said ≡ Reading.refused n → 0 < n
 unfolding readingAs
 named-number none said n e = let i = is-refused e in omega arith
-named-number (some u) said n e = go (ltb (commandOf u) 21) e
+named-number (some u) said n e = go (ltb (commandOf u) 24) e
   where
     go : (b : Bool) → either b (λ _. readingBy (commandOf u) (fieldsOf (commandOf u)) (cellsOf (fieldsOf (commandOf u)) said)) (λ _. Reading.refused 12) ≡ Reading.refused n → 0 < n
     go true e = by-number (commandOf u) (fieldsOf (commandOf u)) (cellsOf (fieldsOf (commandOf u)) said) n e

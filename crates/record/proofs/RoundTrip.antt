@@ -3,8 +3,7 @@
 use mathlib.Core.Path.{_≡_, refl, ap, _∙_}
 use mathlib.Core.{Bool.true, List.List, Option.some}
 use Prim.Native.Nat.{ℕ, _<_}
-use lib.Dec.{T, ltb, leb, ltb→lt, lit<}
-use Rattle.octets.proofs.Ranges.{both-right}
+use lib.Dec.{T, lit<}
 use borrow.Author.Tests.{lt-ltb}
 use Rattle.element.specs.Meaning.{Element, meaningOf, meaningOfPairs}
 use Rattle.shortest.proofs.Many.{map-means}
@@ -19,11 +18,11 @@ use Rattle.saying.proofs.{Sayings.cellsBy, Sayings.cells-said, Named.command-sa
 use Rattle.record.specs.declared.{Body.Body, Message.Message}
 use Rattle.record.specs.{Record.messageOf, Record.commandIn, Says.isNamed, Says.sayingsOf, Says.saysOf, Fits.fits, Written.treeFor, Lent.lentOf}
 use Rattle.record.specs.Reading.{Reading, readingBy, readingAs, readingNamed, readingOf}
-use Rattle.record.proofs.{Typed.Typed, Listed.words-few, Listed.rows-listed, Faultless.each-fits}
+use Rattle.record.proofs.{Typed.Typed, Commands.bare-below, Listed.words-few, Listed.rows-listed, Faultless.each-fits}
 use Rattle.record.proofs.Bodies.{AllShown, own-id, named, body-back, data-back, not-crossed}
 
--- one of the 21 commands
-among : (b : Body) → T (isNamed b) → commandIn b < 21
+-- one of the 24 commands
+among : (b : Body) → T (isNamed b) → commandIn b < 24
 among (Body.Con x) t = lit< tt
 among (Body.ConRsp x) t = lit< tt
 among (Body.StatusRsp x) t = lit< tt
@@ -32,7 +31,8 @@ among (Body.DetRsp sign) t = lit< tt
 among (Body.AttPrp x) t = lit< tt
 among (Body.DetPrp eui) t = lit< tt
 among (Body.UlData x) t = lit< tt
-among (Body.Bare c) t = ltb→lt c 21 (both-right (leb 8 c) (ltb c 21) t)
+among (Body.DlDataQue x) t = lit< tt
+among (Body.Bare c) t = bare-below c t
 
 module _ (m : Message) (d : List ℕ) (h : fits m d ≡ true) where
   abbrev own : List Field
@@ -44,8 +44,8 @@ module _ (m : Message) (d : List ℕ) (h : fits m d ≡ true) where
   abbrev look : List ℕ → Cell
   look = lookIn Cell.missing own cells
 
-  shown : AllShown look (sayingsOf m d)
-  shown k = shown-in (sayingsOf m d) (row-back (sayingsOf m d) (words-few m d)) k own (kinds-of (commandIn (m .body))) (each-fits m d h) (rows-listed m d)
+  shown : AllShown (commandIn (m .body)) look (sayingsOf m d)
+  shown k = shown-in (commandIn (m .body)) (sayingsOf m d) (row-back (commandIn (m .body)) (sayingsOf m d) (words-few m d)) k own (kinds-of (commandIn (m .body))) (each-fits m d h) (rows-listed m d)
 
   message-back : Typed m → messageOf (commandIn (m .body)) look ≡ m
   unfolding messageOf
@@ -54,7 +54,7 @@ module _ (m : Message) (d : List ℕ) (h : fits m d ≡ true) where
   own-reading : Typed m → readingBy (commandIn (m .body)) own cells ≡ Reading.reads m (lentOf m d)
   own-reading t =
       rw (
-        faultless (sayingsOf m d) (row-back (sayingsOf m d) (words-few m d)) own 0 0 (kinds-of (commandIn (m .body))) (each-fits m d h),
+        faultless (commandIn (m .body)) (sayingsOf m d) (row-back (commandIn (m .body)) (sayingsOf m d) (words-few m d)) own 0 0 (kinds-of (commandIn (m .body))) (each-fits m d h),
         not-crossed look d (m .«op_id») own (m .body) shown,
       )
       (λ i. Reading.reads (message-back t i) (data-back look d (m .«op_id») (m .body) shown i))
@@ -67,7 +67,7 @@ module _ (m : Message) (d : List ℕ) (h : fits m d ≡ true) where
   unfolding readingAs
   named-reading said =
       let l = among (m .body) (named look d (m .«op_id») (m .body) shown) in
-      rw (command-name (commandIn (m .body)) l, lt-ltb (commandIn (m .body)) 21 l)
+      rw (command-name (commandIn (m .body)) l, lt-ltb (commandIn (m .body)) 24 l)
 
   -- demand 2: what is written reads back as the same record
   pub written-reads : Typed m → readingOf (outerOf (meaningOf (treeFor m d))) ≡ Reading.reads m (lentOf m d)

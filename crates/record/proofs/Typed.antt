@@ -24,6 +24,7 @@ TypedBody (Body.DetRsp sign) = sign < 2 ^ 32
 TypedBody (Body.AttPrp x) = Wide (x .«nwk_sn_key»)
 TypedBody (Body.DetPrp eui) = Unit {0}
 TypedBody (Body.UlData x) = Wide (x .packet .profile)
+TypedBody (Body.DlDataQue x) = Unit {0}
 TypedBody (Body.Bare c) = Unit {0}
 
 abbrev pub Typed : Message → Type 0
@@ -45,6 +46,7 @@ typed-body o (Body.DetRsp sign) vs g = g .1 .1 .1 .0 .1 .1 .1 .1 .0 .1
 typed-body o (Body.AttPrp x) vs g = wide (x .«nwk_sn_key») _ (g .1 .1 .1 .0 .1 .1 .1 .1 .0 .1 .1 .1 .1 .0)
 typed-body o (Body.DetPrp eui) vs g = tt
 typed-body o (Body.UlData x) vs g = wide-profile (x .packet) _ (g .1 .1 .1 .0 .1 .1 .1 .1 .0 .1 .1 .0)
+typed-body o (Body.DlDataQue x) vs g = tt
 typed-body o (Body.Bare c) vs g = tt
 
 pub typed : (m : Message) (vs : List Val) → Is (row the-type) m vs → Typed m

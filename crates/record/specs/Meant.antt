@@ -31,7 +31,7 @@ answerOf c d (Reading.reads m e) = record { told = record { refusal = 0; place =
 
 -- so many bytes are enough for every message's
 abbrev pub lentSize : ℕ
-lentSize = 245
+lentSize = 880
 
 -- fewer are 15 before all others; for a payload that breaks a rule of form, the break; for the bytes of a lawful tree, the reading of its element
 pub record Meant (s d : List ℕ) (r : Answered) : Type 0 where

@@ -26,10 +26,10 @@ readingBy c l cs =
 unfoldable pub readingAs : ℕ → (List ℕ → Said) → Reading
 readingAs c said = readingBy c (fieldsOf c) (cellsOf (fieldsOf c) said)
 
--- 12: not among the 21
+-- 12: not among the 24
 abbrev pub readingNamed : Option (List ℕ) → (List ℕ → Said) → Reading
 readingNamed none said = Reading.refused 11
-readingNamed (some n) said = either (ltb (commandOf n) 21) (λ _. readingAs (commandOf n) said) (λ _. Reading.refused 12)
+readingNamed (some n) said = either (ltb (commandOf n) 24) (λ _. readingAs (commandOf n) said) (λ _. Reading.refused 12)
 
 unfoldable pub readingOf : Fields → Reading
 readingOf fs = readingNamed (commandSaid (saidOf (bytes "command") fs)) (λ k. saidOf k fs)

@@ -1,13 +1,13 @@
 -- The record of a command, from what its fields are worth: what is absent is zero. Long bytes stand beside it.
 use Prim.Native.{Nat.ℕ, Nat.zero, Nat.suc, String.String}
 use mathlib.Core.List.{List, [], _∷_}
-use Rattle.octets.specs.Number.{bigAt}
-use Rattle.names.specs.Names.{bytes, nameAt}
+use Rattle.octets.specs.{Number.bigAt, Pieces.downlinkBytes}
+use Rattle.names.specs.Names.{bytes, nameAt, downlink, ifDownlink}
 use Rattle.field.specs.Cell.{Cell, valueIn, here, numberIn}
-use Rattle.message.specs.Record.{wordIn, figureIn, idIn, markIn, stringOf, maybeWord, maybeId, maybeReal, maybePosition}
+use Rattle.message.specs.Record.{wordIn, figureIn, idIn, markIn, stringOf, countsOf, stringsOf, maybeWord, maybeId, maybeReal, maybeMark, maybePosition}
 use Rattle.message.specs.declared.{MaybeVersion.MaybeVersion, Signal.Signal}
 use Rattle.record.specs.declared.{Sixteen.Sixteen, Con.Con, ConRsp.ConRsp, StatusRsp.StatusRsp, Packet.Packet, Det.Det, AttPrp.AttPrp}
-use Rattle.record.specs.declared.{UlData.UlData, Body.Body, Message.Message}
+use Rattle.record.specs.declared.{UlData.UlData, DlDataQue.DlDataQue, Body.Body, Message.Message}
 
 abbrev pub maybeVersion : Cell → MaybeVersion
 maybeVersion c = record { here = here c; major = numberIn 0 c; minor = numberIn 1 c; patch = numberIn 2 c }
@@ -15,6 +15,13 @@ maybeVersion c = record { here = here c; major = numberIn 0 c; minor = numberIn 
 -- bytes as a number, and sixteen of them as two; a byte that is not there counts as 0
 abbrev pub bytesIn : Cell → List ℕ
 bytesIn c = stringOf (valueIn c)
+
+-- counters, and data entries
+abbrev pub countsIn : Cell → List ℕ
+countsIn c = countsOf (valueIn c)
+
+abbrev pub stringsIn : Cell → List (List ℕ)
+stringsIn c = stringsOf (valueIn c)
 
 abbrev pub fourOf : List ℕ → ℕ
 fourOf d = bigAt d 0 4
@@ -105,7 +112,22 @@ module _ (look : List ℕ → Cell) where
     «dl_ack» = markIn (on "dlAck");
   }
 
-  -- in the order of `commands`
+  -- the counters and the data entries stand beside it
+  abbrev pub dlDataQueOf : DlDataQue
+  dlDataQueOf = record {
+    «ep_eui» = wordIn (on "epEui");
+    «que_id» = wordIn (on "queId");
+    «cnt_depend» = markIn (on "cntDepend");
+    entries = wordIn (on "userData");
+    format = wordIn (on "format");
+    prio = figureIn (on "prio");
+    «response_exp» = maybeMark (on "responseExp");
+    «response_prio» = maybeMark (on "responsePrio");
+    «dl_wind_req» = maybeMark (on "dlWindReq");
+    «exp_only» = maybeMark (on "expOnly");
+  }
+
+  -- document 01's, in the order of `commands`
   abbrev pub bodies : List Body
   bodies =
       Body.Con conOf ∷
@@ -124,15 +146,19 @@ bodyIn [] i c = Body.Bare c
 bodyIn (b ∷ bs) zero c = b
 bodyIn (b ∷ bs) (suc i) c = bodyIn bs i c
 
-unfoldable pub messageOf : ℕ → (List ℕ → Cell) → Message
-messageOf c look = record { «op_id» = idIn (look (bytes "opId")); body = bodyIn (bodies look) c c }
+abbrev pub bodyOf : ℕ → (List ℕ → Cell) → Body
+bodyOf c look = ifDownlink c (Body.DlDataQue (dlDataQueOf look)) (bodyIn (bodies look) c c)
 
--- the key whose bytes stand beside the record, in the order of `commands`
+unfoldable pub messageOf : ℕ → (List ℕ → Cell) → Message
+messageOf c look = record { «op_id» = idIn (look (bytes "opId")); body = bodyOf c look }
+
+-- the key whose bytes stand beside the record, in the order of document 01's commands
 unfoldable pub lentKeys : List (List ℕ)
 lentKeys = [] ∷ ([] ∷ (bytes "message" ∷ ([] ∷ ([] ∷ ([] ∷ ([] ∷ (bytes "userData" ∷ [])))))))
 
+-- beside dlDataQue stand its counters and its data entries
 unfoldable pub dataOf : ℕ → (List ℕ → Cell) → List ℕ
-dataOf c look = bytesIn (look (nameAt lentKeys c))
+dataOf c look = ifDownlink c (downlinkBytes (countsIn (look (bytes "packetCnt"))) (stringsIn (look (bytes "userData")))) (bytesIn (look (nameAt lentKeys c)))
 
 -- the number of a body's command, by its place in `commands`
 abbrev pub commandIn : Body → ℕ
@@ -144,4 +170,5 @@ commandIn (Body.DetRsp sign) = 4
 commandIn (Body.AttPrp x) = 5
 commandIn (Body.DetPrp eui) = 6
 commandIn (Body.UlData x) = 7
+commandIn (Body.DlDataQue x) = downlink
 commandIn (Body.Bare c) = c

@@ -3,12 +3,13 @@ use Prim.Native.Nat.{ℕ}
 use mathlib.Core.Bool.{Bool, true, not, _&&_, _||_}
 use mathlib.Core.List.{List, [], _∷_, _++_}
 use mathlib.Core.Option.{Option}
-use lib.{Dec.leb, Dec.ltb, ListN.length, ListN.take}
-use Rattle.octets.specs.Bytes.{bigBytes}
-use Rattle.names.specs.Names.{commands, nameAt}
+use lib.{Dec.eqb, Dec.leb, Dec.ltb, ListN.length, ListN.take}
+use Rattle.octets.specs.{Choice.either, Bytes.bigBytes}
+use Rattle.octets.specs.Pieces.{countersLent, piecesLent, areLent}
+use Rattle.names.specs.Names.{commands, nameAt, downlink}
 use Rattle.field.specs.Kind.{Value}
-use Rattle.saying.specs.Says.{Part, Saying, says, partIn, word, id, mark, real, string, realIf, wordIf, idIf, positionIf, versionIf, stringIf, unlessZero}
-use Rattle.record.specs.declared.{Sixteen.Sixteen, Packet.Packet, Body.Body, Message.Message}
+use Rattle.saying.specs.Says.{Part, Saying, says, partIn, word, id, mark, real, string, strings, realIf, wordIf, idIf, markIf, positionIf, versionIf, stringIf, countsIf, unlessZero, unlessPlusZero}
+use Rattle.record.specs.declared.{Sixteen.Sixteen, Packet.Packet, DlDataQue.DlDataQue, Body.Body, Message.Message}
 use Rattle.record.specs.Record.{commandIn}
 
 unfoldable pub sixteenBytes : Sixteen → List ℕ
@@ -28,9 +29,9 @@ tested b p = record { said = p .said; clean = b && p .clean }
 abbrev pub lent : ℕ → List ℕ → Part
 lent n d = tested (leb n (length d)) (string (take n d))
 
--- one of the 21 names; a record that has nothing more is none of the eight that have
+-- one of the 24 names; a record that has nothing more is none of the nine that have
 abbrev pub isBare : ℕ → Bool
-isBare c = leb 8 c && ltb c 21
+isBare c = leb 8 c && (ltb c 24 && not (eqb c downlink))
 
 abbrev pub isNamed : Body → Bool
 isNamed (Body.Con x) = true
@@ -41,6 +42,7 @@ isNamed (Body.DetRsp sign) = true
 isNamed (Body.AttPrp x) = true
 isNamed (Body.DetPrp eui) = true
 isNamed (Body.UlData x) = true
+isNamed (Body.DlDataQue x) = true
 isNamed (Body.Bare c) = isBare c
 
 abbrev pub packetSayings : Packet → List Saying → List Saying
@@ -55,7 +57,11 @@ packetSayings p rs =
     says "profile" (stringIf 16 (p .«profile_len») (sixteenBytes (p .profile))) ∷
     rs
 
--- each key of the command once; D fields are not kept. responseExp stands only with dlOpen
+-- document 02, Q-2: as many counters as data entries, at least one; or no packetCnt and one data entry
+abbrev pub isCounted : DlDataQue → Bool
+isCounted x = either (x .«cnt_depend») (λ _. leb 1 (x .entries)) (λ _. eqb (x .entries) 1)
+
+-- each key of the command once; D fields are not kept. responseExp stands only with dlOpen in ulData
 unfoldable pub bodySayings : Body → List ℕ → List Saying
 bodySayings (Body.Con x) d =
     says "version" (versionIf (x .version)) ∷
@@ -105,6 +111,19 @@ bodySayings (Body.UlData x) d =
     says "responseExp" (tested (not (x .«response_exp») || x .«dl_open») (mark (x .«response_exp»))) ∷
     says "dlAck" (mark (x .«dl_ack»)) ∷
     [])
+bodySayings (Body.DlDataQue x) d =
+    says "epEui" (word (x .«ep_eui»)) ∷
+    says "queId" (word (x .«que_id»)) ∷
+    says "cntDepend" (mark (x .«cnt_depend»)) ∷
+    says "packetCnt" (tested (isCounted x) (countsIf (x .«cnt_depend») (countersLent (x .entries) d))) ∷
+    says "userData" (tested (areLent (x .entries) d) (strings (piecesLent (x .entries) d))) ∷
+    says "format" (unlessZero (x .format)) ∷
+    says "prio" (unlessPlusZero (x .prio)) ∷
+    says "responseExp" (markIf (x .«response_exp»)) ∷
+    says "responsePrio" (markIf (x .«response_prio»)) ∷
+    says "dlWindReq" (markIf (x .«dl_wind_req»)) ∷
+    says "expOnly" (markIf (x .«exp_only»)) ∷
+    []
 bodySayings (Body.Bare c) d = []
 
 unfoldable pub sayingsOf : Message → List ℕ → List Saying

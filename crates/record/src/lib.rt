@@ -1,5 +1,6 @@
 // The record of a message: its opId, and what its command has behind it. Long bytes are lent beside it, and the record has how many they are.
 use message::MaybeId;
+use message::MaybeMark;
 use message::MaybePosition;
 use message::MaybeReal;
 use message::MaybeVersion;
@@ -82,7 +83,21 @@ pub struct UlData {
     pub dl_ack: bool,
 }
 
-// What each command has behind opId. detRsp has its sign, big endian, and detPrp its epEui; thirteen commands have nothing: their number.
+// Counters, lengths and data are lent: as many lengths and data as there are entries, and as many counters where they are counter dependent.
+pub struct DlDataQue {
+    pub ep_eui: u64,
+    pub que_id: u64,
+    pub cnt_depend: bool,
+    pub entries: u8,
+    pub format: u8,
+    pub prio: f64,
+    pub response_exp: MaybeMark,
+    pub response_prio: MaybeMark,
+    pub dl_wind_req: MaybeMark,
+    pub exp_only: MaybeMark,
+}
+
+// What each command has behind opId. detRsp has its sign, big endian, and detPrp its epEui; fifteen commands have nothing: their number.
 pub enum Body {
     Con(Con),
     ConRsp(ConRsp),
@@ -92,6 +107,7 @@ pub enum Body {
     AttPrp(AttPrp),
     DetPrp(u64),
     UlData(UlData),
+    DlDataQue(DlDataQue),
     Bare(u8),
 }
 
@@ -121,6 +137,7 @@ pub fn command_in(b: Body) -> u8
         Body::AttPrp(_) => numbers::ATT_PRP,
         Body::DetPrp(_) => numbers::DET_PRP,
         Body::UlData(_) => numbers::UL_DATA,
+        Body::DlDataQue(_) => numbers::DL_DATA_QUE,
         Body::Bare(c) => c,
     }
 }

@@ -1,38 +1,42 @@
 -- What a cell without a fault holds, by its kind: nothing, or a value in the kind's range. Each kind's judging tests its range; that a real
 -- which was read is finite and a binary64 holds for both formats, since a value of binary32 is one of binary64. Assumes nothing.
 use mathlib.Core.Path.{_≡_, refl, sym, ap, subst, _∙_}
-use mathlib.Core.Bool.{Bool, true, false}
+use mathlib.Core.Bool.{Bool, true, false, _&&_}
 use mathlib.Core.{List.List, List.[], List._∷_, Option.Option, Option.some, Option.none}
-use Prim.Native.Nat.{ℕ, _^_}
+use Prim.Native.Nat.{ℕ, suc, _^_}
 use native.Mathlib.Omega.{arith}
 use lib.Dec.{T, eqb, leb, ltb, leb·suc-suc}
-use lib.{IntN.ℤ, IntN.pos, IntN.negsuc, IntN.natAbs, Pow.areBytes}
+use lib.{IntN.ℤ, IntN.pos, IntN.negsuc, IntN.natAbs, ListN.length, Pow.areBytes}
 use lib.Ieee.{Float, Format, binary32, binary64, ofBits, ofInt, toBits, fits as holds}
 use lib.Ieee.Bits.{ofBits-toBits}
 use lib.Ieee.Fits.{and-i, ofInt-fits}
-use Rattle.octets.specs.Choice.{either}
+use Rattle.octets.specs.{Choice.either, Pieces.areBelow, Pieces.strung}
 use Rattle.element.specs.{Meaning.Element, Meaning.Elements, Meaning.Elements.no-more, Meaning.Elements.more}
 use Rattle.element.specs.Meaning.Element.{null, truth, whole, single, double, text, octets, typed, list, table}
 use Rattle.number.specs.declared.Number.{Number, the-variants.Signed, the-variants.Unsigned, the-variants.Real, the-variants.Not}
 use Rattle.number.specs.Number.{numberOf, finite}
 use Rattle.number.proofs.Finite.{isFin, bits-fin, bits-fit, valued-fin}
 use Rattle.field.specs.Kind.{Kind, Value}
-use Rattle.field.specs.Judge.{when, onSome, inRange, wholeIn, wholeReal, realIn, octetIn, truthOf, textOf, partsOf, octetsIn, realsIn, threeOf, stringSized, judge}
+use Rattle.field.specs.Judge.{when, onSome, inRange, wholeIn, wholeReal, realIn, naturalIn, truthOf, textOf, partsOf, naturalsIn, octetsIn, pieceIn, piecesIn, realsIn, threeOf, countsSized, stringsSized, stringSized, judge}
 use Rattle.field.specs.Version.{numberOfPart, digitsFrom, atMost, released, three, versionOf}
 use Rattle.field.specs.Version as Version
 use Rattle.field.specs.Cell.{Said, Cell, judged, cellOf}
 use Rattle.field.proofs.Reals.{isNegative, whole-value}
 use Rattle.message.specs.Reading.{cellFault}
-use Rattle.saying.specs.Fits.{isReal, isSized}
+use Rattle.saying.specs.Fits.{isReal, isSized, arePieces}
 
 -- a cell of a kind that a record keeps
 pub data Fair : Kind → Cell → Type 0 where
   left : (k : Kind) → Fair k Cell.missing
   number : (lo hi : ℕ) (z : ℤ) → T (inRange lo hi z) → Fair (Kind.wholes lo hi) (Cell.good (Value.number z))
   figure : (x : Float) → T (isReal x) → Fair Kind.reals (Cell.good (Value.figure x))
+  narrow : (x : Float) → T (isReal x) → T (holds binary32 x) → Fair Kind.singles (Cell.good (Value.figure x))
   mark : (b : Bool) → Fair Kind.flags (Cell.good (Value.mark b))
   position : (x y z : Float) → T (isReal x) → T (isReal y) → T (isReal z) → Fair Kind.positions (Cell.good (Value.position x y z))
   array : (lo hi : ℕ) (d : List ℕ) → T (isSized lo hi d) → T (areBytes d) → Fair (Kind.arrays lo hi) (Cell.good (Value.string d))
+  counts : (many : ℕ) (ns : List ℕ) → T (leb (length ns) many) → T (areBelow (2 ^ 32) ns) → Fair (Kind.counters many) (Cell.good (Value.counts ns))
+  strings : (many most all : ℕ) (ds : List (List ℕ)) → T (leb (length ds) many && leb (length (strung ds)) all) → T (arePieces most ds)
+      → Fair (Kind.pieces many most all) (Cell.good (Value.strings ds))
   letters : (lo hi : ℕ) (d : List ℕ) → T (isSized lo hi d) → Fair (Kind.texts lo hi) (Cell.good (Value.string d))
   release : (a b c : ℕ) → T (leb a 65535) → T (leb b 65535) → T (leb c 65535) → Fair Kind.versions (Cell.good (Value.release a b c))
 
@@ -102,29 +106,65 @@ reals-in (more e es) = go (realIn (numberOf e)) (real-in (numberOf e) (real-read
     go (some x) t none u = tt
     go (some x) t (some xs) u = (t, u)
 
-byte-in : (n : ℕ) → T (leb n 255) → T (ltb n 256)
-byte-in n t = rw leb·suc-suc t
-
-octet-in : (n : Number) → Where (λ (b : ℕ). T (ltb b 256)) (octetIn n)
-octet-in (Signed z) = tt
-octet-in (Unsigned n) = go (leb n 255) refl
+natural-in : (hi : ℕ) (n : Number) → Where (λ (b : ℕ). T (ltb b (suc hi))) (naturalIn hi n)
+natural-in hi (Signed z) = tt
+natural-in hi (Unsigned n) = go (leb n hi) refl
   where
-    go : (b : Bool) → leb n 255 ≡ b → Where (λ (b : ℕ). T (ltb b 256)) (either b (λ _. some n) (λ _. none))
-    go true e = byte-in n (rw e tt)
+    go : (b : Bool) → leb n hi ≡ b → Where (λ (b : ℕ). T (ltb b (suc hi))) (either b (λ _. some n) (λ _. none))
+    go true e = rw (leb·suc-suc, e) tt
     go false e = tt
-octet-in (Real x) = tt
-octet-in Not = tt
+natural-in hi (Real x) = tt
+natural-in hi Not = tt
+
+-- a test of lists that holds of none, and of one number more up to hi
+module _ (hi : ℕ) (test : List ℕ → Bool) (nothing : T (test [])) (one-more : (n : ℕ) (ns : List ℕ) → T (ltb n (suc hi)) → T (test ns) → T (test (n ∷ ns))) where
+  naturals-in : (es : Elements) → Where (λ (ns : List ℕ). T (test ns)) (naturalsIn hi es)
+  unfolding naturalsIn
+  naturals-in no-more = nothing
+  naturals-in (more e es) = go (naturalIn hi (numberOf e)) (natural-in hi (numberOf e)) (naturalsIn hi es) (naturals-in es)
+    where
+      go : (o : Option ℕ) → Where (λ (n : ℕ). T (ltb n (suc hi))) o → (p : Option (List ℕ)) → Where (λ (ns : List ℕ). T (test ns)) p
+          → Where (λ (ns : List ℕ). T (test ns)) (onSome o (λ n. onSome p (λ ns. some (n ∷ ns))))
+      go none t p u = tt
+      go (some n) t none u = tt
+      go (some n) t (some ns) u = one-more n ns t u
 
 octets-in : (es : Elements) → Where (λ (d : List ℕ). T (areBytes d)) (octetsIn es)
-unfolding octetsIn
-octets-in no-more = tt
-octets-in (more e es) = go (octetIn (numberOf e)) (octet-in (numberOf e)) (octetsIn es) (octets-in es)
-  where
-    go : (o : Option ℕ) → Where (λ (b : ℕ). T (ltb b 256)) o → (p : Option (List ℕ)) → Where (λ (d : List ℕ). T (areBytes d)) p
-        → Where (λ (d : List ℕ). T (areBytes d)) (onSome o (λ b. onSome p (λ bs. some (b ∷ bs))))
-    go none t p u = tt
-    go (some b) t none u = tt
-    go (some b) t (some bs) u = and-i (ltb b 256) (areBytes bs) t u
+octets-in es = naturals-in 255 areBytes tt (λ b bs t u. and-i (ltb b 256) (areBytes bs) t u) es
+
+counters-in : (es : Elements) → Where (λ (ns : List ℕ). T (areBelow (2 ^ 32) ns)) (naturalsIn 0xFFFFFFFF es)
+counters-in es = naturals-in 0xFFFFFFFF (areBelow (2 ^ 32)) tt (λ n ns t u. and-i (ltb n (2 ^ 32)) (areBelow (2 ^ 32) ns) t u) es
+
+-- arrays of so many bytes
+module _ (most : ℕ) where
+  abbrev IsPiece : List ℕ → Type 0
+  IsPiece d = T (leb (length d) most && areBytes d)
+
+  piece-in : (e : Element) → Where IsPiece (pieceIn most e)
+  piece-in e = go (partsOf e)
+    where
+      sized : (d : List ℕ) → T (areBytes d) → (b : Bool) → leb (length d) most ≡ b → Where IsPiece (either b (λ _. some d) (λ _. none))
+      sized d t true q = and-i (leb (length d) most) (areBytes d) (rw q tt) t
+      sized d t false q = tt
+
+      bytes : (o : Option (List ℕ)) → Where (λ (d : List ℕ). T (areBytes d)) o → Where IsPiece (onSome o (λ d. either (leb (length d) most) (λ _. some d) (λ _. none)))
+      bytes none t = tt
+      bytes (some d) t = sized d t (leb (length d) most) refl
+
+      go : (o : Option Elements) → Where IsPiece (onSome o (λ es. onSome (octetsIn es) (λ d. either (leb (length d) most) (λ _. some d) (λ _. none))))
+      go none = tt
+      go (some es) = bytes (octetsIn es) (octets-in es)
+
+  pieces-in : (es : Elements) → Where (λ (ds : List (List ℕ)). T (arePieces most ds)) (piecesIn most es)
+  unfolding piecesIn arePieces
+  pieces-in no-more = tt
+  pieces-in (more e es) = go (pieceIn most e) (piece-in e) (piecesIn most es) (pieces-in es)
+    where
+      go : (o : Option (List ℕ)) → Where IsPiece o → (p : Option (List (List ℕ))) → Where (λ (ds : List (List ℕ)). T (arePieces most ds)) p
+          → Where (λ (ds : List (List ℕ)). T (arePieces most ds)) (onSome o (λ d. onSome p (λ ds. some (d ∷ ds))))
+      go none t p u = tt
+      go (some d) t none u = tt
+      go (some d) t (some ds) u = and-i (leb (length d) most && areBytes d) (arePieces most ds) t u
 
 -- a version's numbers
 abbrev small : ℕ → Type 0
@@ -164,9 +204,12 @@ sound must (Cell.good v) e = tt
 abbrev pub isKept : Kind → Bool
 isKept (Kind.wholes lo hi) = true
 isKept Kind.reals = true
+isKept Kind.singles = true
 isKept Kind.flags = true
 isKept Kind.positions = true
 isKept (Kind.arrays lo hi) = true
+isKept (Kind.counters many) = true
+isKept (Kind.pieces many most all) = true
 isKept (Kind.texts lo hi) = true
 isKept Kind.versions = true
 isKept Kind.words = false
@@ -189,6 +232,10 @@ whole-fair lo hi Not = λ t. absurd t
 real-fair : (o : Option Float) → Where (λ (x : Float). T (isReal x)) o → FairIf Kind.reals (onSome o (λ x. some (Value.figure x)))
 real-fair none r t = absurd t
 real-fair (some x) r t = Fair.figure x r
+
+single-fair : (o : Option Float) → Where (λ (x : Float). T (isReal x)) o → FairIf Kind.singles (onSome o (λ x. when (holds binary32 x) (Value.figure x)))
+single-fair none r t = absurd t
+single-fair (some x) r t = fair-when Kind.singles (holds binary32 x) (Value.figure x) (λ h. Fair.narrow x r h) t
 
 flag-fair : (o : Option Bool) → FairIf Kind.flags (onSome o (λ b. some (Value.mark b)))
 flag-fair none t = absurd t
@@ -217,6 +264,23 @@ array-fair lo hi (some es) t = go (octetsIn es) (octets-in es) t
     go none r t = absurd t
     go (some d) r t = fair-when (Kind.arrays lo hi) (isSized lo hi d) (Value.string d) (λ s. Fair.array lo hi d s r) t
 
+counts-fair : (many : ℕ) (o : Option Elements) → FairIf (Kind.counters many) (onSome o (λ es. onSome (naturalsIn 0xFFFFFFFF es) (countsSized many)))
+counts-fair many none t = absurd t
+counts-fair many (some es) t = go (naturalsIn 0xFFFFFFFF es) (counters-in es) t
+  where
+    go : (p : Option (List ℕ)) → Where (λ (ns : List ℕ). T (areBelow (2 ^ 32) ns)) p → FairIf (Kind.counters many) (onSome p (countsSized many))
+    go none r t = absurd t
+    go (some ns) r t = fair-when (Kind.counters many) (leb (length ns) many) (Value.counts ns) (λ s. Fair.counts many ns s r) t
+
+strings-fair : (many most all : ℕ) (o : Option Elements) → FairIf (Kind.pieces many most all) (onSome o (λ es. onSome (piecesIn most es) (stringsSized many all)))
+strings-fair many most all none t = absurd t
+strings-fair many most all (some es) t = go (piecesIn most es) (pieces-in most es) t
+  where
+    go : (p : Option (List (List ℕ))) → Where (λ (ds : List (List ℕ)). T (arePieces most ds)) p → FairIf (Kind.pieces many most all) (onSome p (stringsSized many all))
+    go none r t = absurd t
+    go (some ds) r t =
+        fair-when (Kind.pieces many most all) (leb (length ds) many && leb (length (strung ds)) all) (Value.strings ds) (λ s. Fair.strings many most all ds s r) t
+
 text-fair : (lo hi : ℕ) (o : Option (List ℕ)) → FairIf (Kind.texts lo hi) (onSome o (stringSized lo hi))
 text-fair lo hi none t = absurd t
 text-fair lo hi (some d) t = fair-when (Kind.texts lo hi) (isSized lo hi d) (Value.string d) (Fair.letters lo hi d) t
@@ -243,9 +307,12 @@ judge-fair : (k : Kind) (e : Element) → T (isKept k) → FairIf k (judge k e)
 unfolding judge
 judge-fair (Kind.wholes lo hi) e u = whole-fair lo hi (numberOf e)
 judge-fair Kind.reals e u = real-fair (realIn (numberOf e)) (real-in (numberOf e) (real-read e))
+judge-fair Kind.singles e u = single-fair (realIn (numberOf e)) (real-in (numberOf e) (real-read e))
 judge-fair Kind.flags e u = flag-fair (truthOf e)
 judge-fair Kind.positions e u = place-fair (partsOf e)
 judge-fair (Kind.arrays lo hi) e u = array-fair lo hi (partsOf e)
+judge-fair (Kind.counters many) e u = counts-fair many (partsOf e)
+judge-fair (Kind.pieces many most all) e u = strings-fair many most all (partsOf e)
 judge-fair (Kind.texts lo hi) e u = text-fair lo hi (textOf e)
 judge-fair Kind.versions e u = version-fair (textOf e)
 judge-fair Kind.words e u = absurd u

@@ -14,8 +14,8 @@ use Rattle.names.proofs.Same.{same-refl, same-eq}
 use Rattle.field.specs.{Kind.Kind, Kind.Value, Judge.onSome, Judge.textOf, Judge.judge}
 use Rattle.field.specs.Cell.{Said, Cell, cellOf, here}
 use Rattle.field.specs.Cell as Cells
-use Rattle.message.specs.{Fields.Field, Fields.lists, Fields.fieldsOf, Reading.cellFault, Reading.commandSaid}
-use Rattle.message.proofs.KeyKinds.{passes, kindFor, agreed, first-agreed, others-agreed, kinds-of, lacks}
+use Rattle.message.specs.{Fields.Field, Fields.lists, Fields.downlinkFields, Fields.fieldsOf, Reading.cellFault, Reading.commandSaid}
+use Rattle.message.proofs.KeyKinds.{passes, kindFor, command-kind, agreed, first-agreed, others-agreed, kinds-of, lacks}
 use Rattle.saying.specs.Says.{Part, Saying, string, partIn}
 use Rattle.saying.specs.Fits.{within, saidFits, fieldFits}
 use Rattle.saying.proofs.{Rows.hasRow, Rows.rowless, Made.isSaid, Made.isMade, Shown.AllFit}
@@ -31,7 +31,7 @@ neededAmong [] u = false
 neededAmong (l ∷ ls) u = neededIn l u || neededAmong ls u
 
 unfoldable pub isNeeded : List ℕ → Bool
-isNeeded u = neededAmong lists u
+isNeeded u = neededAmong (downlinkFields ∷ lists) u
 
 -- a mandatory field has a row
 abbrev pub areKept : List Saying → List Field → Bool
@@ -91,21 +91,21 @@ named-made n (Said.once e) q b d = go (textOf e) q
 named-made n Said.twice e b d = let z : _≡_ {A = ℕ} 0 1 = cc in absurd (omega arith)
 
 -- each part of the rows is what its key's cell makes
-abbrev pub IsMade : (List ℕ → Cell) → List ℕ → Part → Type 0
-IsMade look u p = T (isMade (isNeeded u) (kindFor u) (look u) p)
+abbrev pub IsMade : ℕ → (List ℕ → Cell) → List ℕ → Part → Type 0
+IsMade c look u p = T (isMade (isNeeded u) (kindFor c u) (look u) p)
 
-abbrev pub AllMade : (List ℕ → Cell) → List Saying → Type 0
-AllMade look [] = Unit {0}
-AllMade look (r ∷ rs) = IsMade look (r .key) (r .part) × AllMade look rs
+abbrev pub AllMade : ℕ → (List ℕ → Cell) → List Saying → Type 0
+AllMade c look [] = Unit {0}
+AllMade c look (r ∷ rs) = IsMade c look (r .key) (r .part) × AllMade c look rs
 
-part-made : (look : List ℕ → Cell) (u : List ℕ) (rs : List Saying) → AllMade look rs → hasRow rs u ≡ true → IsMade look u (partIn rs u)
+part-made : (c : ℕ) (look : List ℕ → Cell) (u : List ℕ) (rs : List Saying) → AllMade c look rs → hasRow rs u ≡ true → IsMade c look u (partIn rs u)
 unfolding partIn
-part-made look u [] a e = true-false (sym e)
-part-made look u (r ∷ rs) a e = go (sameBytes (r .key) u) refl e (part-made look u rs (a .1))
+part-made c look u [] a e = true-false (sym e)
+part-made c look u (r ∷ rs) a e = go (sameBytes (r .key) u) refl e (part-made c look u rs (a .1))
   where
-    go : (b : Bool) → sameBytes (r .key) u ≡ b → b || hasRow rs u ≡ true → (hasRow rs u ≡ true → IsMade look u (partIn rs u))
-        → IsMade look u (either b (λ _. r .part) (λ _. partIn rs u))
-    go true q e rest = subst (λ (v : List ℕ). IsMade look v (r .part)) (same-eq (r .key) u q) (a .0)
+    go : (b : Bool) → sameBytes (r .key) u ≡ b → b || hasRow rs u ≡ true → (hasRow rs u ≡ true → IsMade c look u (partIn rs u))
+        → IsMade c look u (either b (λ _. r .part) (λ _. partIn rs u))
+    go true q e rest = subst (λ (v : List ℕ). IsMade c look v (r .part)) (same-eq (r .key) u q) (a .0)
     go false q e rest = rest e
 
 -- a reading without a fault
@@ -116,16 +116,15 @@ module _ (said : List ℕ → Said) (c : ℕ) (s : AllSound said (fieldsOf c)) w
   abbrev look : List ℕ → Cell
   look u = found said c u
 
-  pub command-made : (n d : List ℕ) → commandSaid (said (bytes "command")) ≡ some n → IsMade (found said c) (bytes "command") (string d)
-  unfolding kindFor lists
+  pub command-made : (n d : List ℕ) → commandSaid (said (bytes "command")) ≡ some n → IsMade c (found said c) (bytes "command") (string d)
   command-made n d named =
-      rw (found-own said (bytes "command") c (has-command c))
+      rw (found-own said (bytes "command") c (has-command c), command-kind c)
       (named-made n (said (bytes "command")) named (isNeeded (bytes "command")) d)
 
   -- what the command must have is there
-  needed-there : (u : List ℕ) (l : List Field) → T (agreed l) → AllSound said l → T (neededIn l u) → (lacks l u ≡ false) × T (here (cellFor said u))
+  needed-there : (u : List ℕ) (l : List Field) → T (agreed c l) → AllSound said l → T (neededIn l u) → (lacks l u ≡ false) × T (here (cellFor said c u))
   needed-there u [] g z t = absurd t
-  needed-there u (f ∷ l) g z t = go (f .must) (sameBytes (f .key) u) refl (z .0) t (needed-there u l (others-agreed f l g) (z .1))
+  needed-there u (f ∷ l) g z t = go (f .must) (sameBytes (f .key) u) refl (z .0) t (needed-there u l (others-agreed c f l g) (z .1))
     where
       sound-there : (x : Cell) → cellFault true x ≡ 0 → T (here x)
       sound-there Cell.missing e = absurd (omega arith)
@@ -134,8 +133,8 @@ module _ (said : List ℕ → Said) (c : ℕ) (s : AllSound said (fieldsOf c)) w
       sound-there (Cell.good v) e = tt
 
       go : (must same : Bool) → sameBytes (f .key) u ≡ same → cellFault must (cellAt said f) ≡ 0 → T (must && same || neededIn l u)
-          → (T (neededIn l u) → (lacks l u ≡ false) × T (here (cellFor said u))) → (not same && lacks l u ≡ false) × T (here (cellFor said u))
-      go true true q e t rest = (refl, subst (λ (x : Cell). T (here x)) (own-cell said f l u g (same-eq (f .key) u q)) (sound-there (cellAt said f) e))
+          → (T (neededIn l u) → (lacks l u ≡ false) × T (here (cellFor said c u))) → (not same && lacks l u ≡ false) × T (here (cellFor said c u))
+      go true true q e t rest = (refl, subst (λ (x : Cell). T (here x)) (own-cell said c f l u g (same-eq (f .key) u q)) (sound-there (cellAt said f) e))
       go true false q e t rest = rest t
       go false true q e t rest = (refl, rest t .1)
       go false false q e t rest = rest t
@@ -145,8 +144,8 @@ module _ (said : List ℕ → Said) (c : ℕ) (s : AllSound said (fieldsOf c)) w
       let n = needed-there u own (kinds-of c) s t in
       rw (found-own said u c (n .0)) (n .1)
 
-  module _ (rows : List Saying) (a : AllMade (found said c) rows) where
-    field-fits : (f : Field) (l : List Field) → T (agreed (f ∷ l)) → cellFault (f .must) (cellAt said f) ≡ 0 → T (areKept rows (f ∷ l)) → lacks own (f .key) ≡ false
+  module _ (rows : List Saying) (a : AllMade c (found said c) rows) where
+    field-fits : (f : Field) (l : List Field) → T (agreed c (f ∷ l)) → cellFault (f .must) (cellAt said f) ≡ 0 → T (areKept rows (f ∷ l)) → lacks own (f .key) ≡ false
         → T (fieldFits f (partIn rows (f .key)))
     field-fits f l g z k i = go (hasRow rows (f .key)) refl (both-left (not (f .must) || (isNeeded (f .key) && hasRow rows (f .key))) (areKept rows l) k)
       where
@@ -161,18 +160,18 @@ module _ (said : List ℕ → Said) (c : ℕ) (s : AllSound said (fieldsOf c)) w
         go : (h : Bool) → hasRow rows (f .key) ≡ h → T (not (f .must) || (isNeeded (f .key) && h)) → T (fieldFits f (partIn rows (f .key)))
         go true e t =
             let p = partIn rows (f .key) in
-            let x : look (f .key) ≡ cellAt said f = found-own said (f .key) c i ∙ sym (own-cell said f l (f .key) g refl) in
+            let x : look (f .key) ≡ cellAt said f = found-own said (f .key) c i ∙ sym (own-cell said c f l (f .key) g refl) in
             let y : T (isMade (isNeeded (f .key)) (f .kind) (look (f .key)) p) =
-            subst (λ (k : Kind). T (isMade (isNeeded (f .key)) k (look (f .key)) p)) (sym (first-agreed f l g)) (part-made look (f .key) rows a e) in
+            subst (λ (k : Kind). T (isMade (isNeeded (f .key)) k (look (f .key)) p)) (sym (first-agreed c f l g)) (part-made c look (f .key) rows a e) in
             made-fits (isNeeded (f .key)) f p (needed (f .must) (isNeeded (f .key)) true t) (cellAt said f) z
             (subst (λ (d : Cell). T (isMade (isNeeded (f .key)) (f .kind) d p)) x y)
         go false e t = no-part f rows (unneeded (f .must) (isNeeded (f .key)) t) e
 
-    each-fit : (l : List Field) → T (agreed l) → AllSound said l → T (areKept rows l) → ((u : List ℕ) → lacks l u ≡ false → lacks own u ≡ false) → AllFit rows l
+    each-fit : (l : List Field) → T (agreed c l) → AllSound said l → T (areKept rows l) → ((u : List ℕ) → lacks l u ≡ false → lacks own u ≡ false) → AllFit rows l
     each-fit [] g z k i = tt
     each-fit (f ∷ l) g z k i = (
       field-fits f l g (z .0) k (i (f .key) (rw same-refl)),
-      each-fit l (others-agreed f l g) (z .1) (both-right (not (f .must) || (isNeeded (f .key) && hasRow rows (f .key))) (areKept rows l) k)
+      each-fit l (others-agreed c f l g) (z .1) (both-right (not (f .must) || (isNeeded (f .key) && hasRow rows (f .key))) (areKept rows l) k)
           (λ u e. i u (rw e (and-false (not (sameBytes (f .key) u))))),
     )
 

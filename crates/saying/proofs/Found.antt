@@ -1,5 +1,5 @@
 -- What reading finds under each key where it finds no fault: under a key that the command has, what is said of it, nothing or a value in the
--- range of the key's one kind; under the others nothing. By induction over the command's list. Assumes nothing.
+-- range of the key's kind there; under the others nothing. By induction over the command's list. Assumes nothing.
 use mathlib.Core.Path.{_≡_, refl, ap, _∙_}
 use mathlib.Core.{Bool.Bool, Bool.true, Bool.false, List.List, List.[], List._∷_}
 use Prim.Native.Nat.{ℕ, zero, suc, max}
@@ -30,11 +30,11 @@ module _ (said : List ℕ → Said) where
   abbrev pub cellAt : Field → Cell
   cellAt f = cellOf (f .kind) (said (f .key))
 
-  abbrev pub cellFor : List ℕ → Cell
-  cellFor u = cellOf (kindFor u) (said u)
+  abbrev pub cellFor : ℕ → List ℕ → Cell
+  cellFor c u = cellOf (kindFor c u) (said u)
 
-  pub own-cell : (f : Field) (l : List Field) (u : List ℕ) → T (agreed (f ∷ l)) → f .key ≡ u → cellAt f ≡ cellFor u
-  own-cell f l u a e = ap (λ (k : Kind). cellOf k (said (f .key))) (first-agreed f l a) ∙ ap cellFor e
+  pub own-cell : (c : ℕ) (f : Field) (l : List Field) (u : List ℕ) → T (agreed c (f ∷ l)) → f .key ≡ u → cellAt f ≡ cellFor c u
+  own-cell c f l u a e = ap (λ (k : Kind). cellOf k (said (f .key))) (first-agreed c f l a) ∙ ap (cellFor c) e
 
   abbrev pub AllSound : List Field → Type 0
   AllSound [] = Unit {0}
@@ -52,28 +52,28 @@ module _ (said : List ℕ → Said) where
   abbrev pub found : ℕ → List ℕ → Cell
   found c u = lookIn Cell.missing (fieldsOf c) (cellsOf (fieldsOf c) said) u
 
-  module _ (u : List ℕ) where
-    own-cells : (l : List Field) → T (agreed l) → Each (λ f c. f .key ≡ u → c ≡ cellFor u) l (cellsOf l said)
+  module _ (u : List ℕ) (c : ℕ) where
+    own-cells : (l : List Field) → T (agreed c l) → Each (λ f x. f .key ≡ u → x ≡ cellFor c u) l (cellsOf l said)
     unfolding cellsOf
     own-cells [] a = tt
-    own-cells (f ∷ l) a = (own-cell f l u a, own-cells l (others-agreed f l a))
+    own-cells (f ∷ l) a = (own-cell c f l u a, own-cells l (others-agreed c f l a))
 
-    pub found-own : (c : ℕ) → lacks (fieldsOf c) u ≡ false → found c u ≡ cellFor u
-    found-own c = listed u (λ x. x ≡ cellFor u) (fieldsOf c) (cellsOf (fieldsOf c) said) Cell.missing (own-cells (fieldsOf c) (kinds-of c))
+    pub found-own : lacks (fieldsOf c) u ≡ false → found c u ≡ cellFor c u
+    found-own = listed u (λ x. x ≡ cellFor c u) (fieldsOf c) (cellsOf (fieldsOf c) said) Cell.missing (own-cells (fieldsOf c) (kinds-of c))
 
-    pub found-none : (c : ℕ) → lacks (fieldsOf c) u ≡ true → found c u ≡ Cell.missing
-    found-none c = unlisted u (fieldsOf c) (cellsOf (fieldsOf c) said) Cell.missing
+    pub found-none : lacks (fieldsOf c) u ≡ true → found c u ≡ Cell.missing
+    found-none = unlisted u (fieldsOf c) (cellsOf (fieldsOf c) said) Cell.missing
 
-    module _ (k : T (isKept (kindFor u))) where
-      own-fair : (l : List Field) → T (agreed l) → AllSound l → Each (λ f c. f .key ≡ u → Fair (kindFor u) c) l (cellsOf l said)
+    module _ (k : T (isKept (kindFor c u))) where
+      own-fair : (l : List Field) → T (agreed c l) → AllSound l → Each (λ f x. f .key ≡ u → Fair (kindFor c u) x) l (cellsOf l said)
       unfolding cellsOf
       own-fair [] a s = tt
       own-fair (f ∷ l) a s =
-          (λ e. rw (own-cell f l u a e) (cell-fair (kindFor u) k (said u) (rw (own-cell f l u a e) at (sound (f .must) (cellAt f) (s .0)))), own-fair l (others-agreed f l a) (s .1))
+          (λ e. rw (own-cell c f l u a e) (cell-fair (kindFor c u) k (said u) (rw (own-cell c f l u a e) at (sound (f .must) (cellAt f) (s .0)))), own-fair l (others-agreed c f l a) (s .1))
 
-  pub fair : (c : ℕ) → AllSound (fieldsOf c) → (u : List ℕ) → T (isKept (kindFor u)) → Fair (kindFor u) (found c u)
+  pub fair : (c : ℕ) → AllSound (fieldsOf c) → (u : List ℕ) → T (isKept (kindFor c u)) → Fair (kindFor c u) (found c u)
   fair c s u k = go (lacks (fieldsOf c) u) refl
     where
-      go : (b : Bool) → lacks (fieldsOf c) u ≡ b → Fair (kindFor u) (found c u)
-      go false e = listed u (Fair (kindFor u)) (fieldsOf c) (cellsOf (fieldsOf c) said) Cell.missing (own-fair u k (fieldsOf c) (kinds-of c) s) e
-      go true e = rw (found-none u c e) (Fair.left (kindFor u))
+      go : (b : Bool) → lacks (fieldsOf c) u ≡ b → Fair (kindFor c u) (found c u)
+      go false e = listed u (Fair (kindFor c u)) (fieldsOf c) (cellsOf (fieldsOf c) said) Cell.missing (own-fair u c k (fieldsOf c) (kinds-of c) s) e
+      go true e = rw (found-none u c e) (Fair.left (kindFor c u))

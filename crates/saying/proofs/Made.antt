@@ -5,15 +5,15 @@ use mathlib.Core.Bool.{Bool, true, false, not, _&&_, _||_}
 use Prim.Native.Nat.{ℕ, suc}
 use lib.Dec.{T, eqb, leb, leb·zero, leb·suc-zero}
 use lib.IntN.{pos, negsuc}
-use lib.Ieee.{ofBits, ofFields, odd, toBits, size, span, climb, fits as holds}
+use lib.Ieee.{binary32, ofBits, ofFields, odd, toBits, size, span, climb, fits as holds}
 use lib.Ieee.Fits.{and-i}
 use Rattle.octets.specs.Choice.{either}
 use Rattle.octets.proofs.Ranges.{true-is}
 use Rattle.field.specs.Kind.{Kind, Value}
 use Rattle.field.specs.Cell.{Cell, zero64, here, origin}
-use Rattle.message.specs.Record.{wordIn, figureIn, idIn, markIn, maybeWord, maybeId, maybePosition}
+use Rattle.message.specs.Record.{wordIn, figureIn, idIn, markIn, maybeWord, maybeId, maybeMark, maybePosition}
 use Rattle.saying.specs.Says as Says
-use Rattle.saying.specs.Says.{Part, noBits, noPosition, word, id, mark, real, realIf, positionIf, unlessZero}
+use Rattle.saying.specs.Says.{Part, noBits, noPosition, word, id, mark, real, realIf, markIf, positionIf, unlessZero, unlessPlusZero}
 use Rattle.saying.specs.Fits.{isReal, within}
 use Rattle.saying.proofs.Fair.{Fair}
 
@@ -86,12 +86,30 @@ module _ (must : Bool) where
   maybe-real-made (Fair.left k) = and-i (noBits zero64) true no-figure tt
   maybe-real-made (Fair.figure x t) = t
 
+  pub maybe-mark-made : {c : Cell} → Fair Kind.flags c → T (isMade must Kind.flags c (markIf (maybeMark c)))
+  unfolding within
+  maybe-mark-made (Fair.left k) = tt
+  maybe-mark-made (Fair.mark b) = tt
+
   pub maybe-place-made : {c : Cell} → Fair Kind.positions c → T (isMade must Kind.positions c (positionIf (maybePosition c)))
   unfolding within
   maybe-place-made (Fair.left k) = and-i (noPosition origin) true no-position tt
   maybe-place-made (Fair.position x y z a b d) = and-i (isReal x) (isReal y && isReal z) a (and-i (isReal y) (isReal z) b d)
 
--- a zero that was read is not said again
+-- a zero that was read is not said again, and so a plus zero
+pub unless-plus-zero-made : {c : Cell} → Fair Kind.singles c → T (isMade false Kind.singles c (unlessPlusZero (figureIn c)))
+unfolding within
+unless-plus-zero-made (Fair.left k) = go (noBits zero64) no-figure
+  where
+    go : (b : Bool) → T b → T ((not b || b) && isSaid true Kind.singles (either (not b) (λ _. some (Value.figure zero64)) (λ _. none)))
+    go true t = tt
+    go false t = absurd t
+unless-plus-zero-made (Fair.narrow x r h) = go (noBits x)
+  where
+    go : (b : Bool) → T ((not b || b) && isSaid true Kind.singles (either (not b) (λ _. some (Value.figure x)) (λ _. none)))
+    go true = tt
+    go false = and-i (isReal x) (holds binary32 x) r h
+
 pub unless-zero-made : (hi : ℕ) {c : Cell} → Fair (Kind.wholes 0 hi) c → T (isMade false (Kind.wholes 0 hi) c (unlessZero (wordIn c)))
 unfolding within
 unless-zero-made hi (Fair.left k) = tt

@@ -10,16 +10,16 @@ use lib.Ieee.{Float, binary64, ofBits, toBits, fits as holds}
 use lib.Ieee.Bits.{ofBits-toBits}
 use lib.ListN.{length, take, drop, replicate, take-append-drop}
 use Rattle.octets.specs.Choice.{either}
-use Rattle.octets.proofs.Ranges.{both-left, both-right, is-true}
+use Rattle.octets.proofs.{Ranges.both-left, Ranges.both-right, Ranges.is-true, Truth.some-is, Truth.none-some}
 use Rattle.names.proofs.Same.{same-eq}
 use Rattle.field.specs.declared.Position.{Position}
 use Rattle.field.specs.Kind.{Kind, Value}
 use Rattle.field.specs.Cell.{Cell, zero64, valueIn, here, origin}
-use Rattle.message.specs.Record.{wordIn, figureIn, idIn, markIn, stringOf, maybeWord, maybeId, maybePosition}
-use Rattle.message.specs.declared.{MaybeWord.MaybeWord, MaybeId.MaybeId, MaybePosition.MaybePosition}
+use Rattle.message.specs.Record.{wordIn, figureIn, idIn, markIn, stringOf, maybeWord, maybeId, maybeMark, maybePosition}
+use Rattle.message.specs.declared.{MaybeWord.MaybeWord, MaybeId.MaybeId, MaybeMark.MaybeMark, MaybePosition.MaybePosition}
 use Rattle.saying.specs.Says as Says
 use Rattle.saying.specs.Says.{Part, noBits, noPosition, positionValue, always, saidIf, word, id, mark, real, string, positionIf, unlessZero, isZero, areNulls, tidy, stringIf}
-use Rattle.saying.proofs.{Rows.some-is, Rows.some-none, Shown.Shown, Shown.keptBy, Shown.Shown.spoken, Shown.Shown.silent}
+use Rattle.saying.proofs.{Shown.Shown, Shown.keptBy, Shown.Shown.spoken, Shown.Shown.silent}
 
 no-bits : (x : Float) → T (noBits x) → zero64 ≡ x
 no-bits x t =
@@ -30,7 +30,7 @@ no-bits x t =
 -- a part that always says something, and one that may
 pub always-back : (k : Kind) (v : Value) {c : Cell} → Shown k (always v) c → c ≡ Cell.good (keptBy k v)
 always-back k v (spoken u e t w) = ap (λ (x : Value). Cell.good (keptBy k x)) (sym (some-is e))
-always-back k v (silent e t) = some-none e
+always-back k v (silent e t) = none-some (sym e)
 
 pub data Maybe (k : Kind) (v : Value) (empty : Bool) : Bool → Cell → Type 0 where
   there : Maybe k v empty true (Cell.good (keptBy k v))
@@ -39,8 +39,8 @@ pub data Maybe (k : Kind) (v : Value) (empty : Bool) : Bool → Cell → Type 0 
 module _ (k : Kind) (v : Value) (empty : Bool) where
   pub maybe-back : (h : Bool) (c : Cell) → Shown k (saidIf h v empty) c → Maybe k v empty h c
   maybe-back true c (spoken u e t w) = subst (λ (x : Value). Maybe k v empty true (Cell.good (keptBy k x))) (some-is e) there
-  maybe-back true c (silent e t) = some-none e
-  maybe-back false c (spoken u e t w) = some-none (sym e)
+  maybe-back true c (silent e t) = none-some (sym e)
+  maybe-back false c (spoken u e t w) = none-some e
   maybe-back false c (silent e t) = absent t
 
 zero-is : (z : ℤ) → T (isZero z) → pos 0 ≡ z
@@ -81,6 +81,14 @@ module _ {lo hi : ℕ} where
 pub mark-back : {b : Bool} {c : Cell} → Shown Kind.flags (mark b) c → markIn c ≡ b
 mark-back {b} s = ap markIn (always-back Kind.flags (Value.mark b) s)
 
+pub maybe-mark-back : (m : MaybeMark) {c : Cell} → Shown Kind.flags (Says.markIf m) c → maybeMark c ≡ m
+maybe-mark-back m {c} s = go (m .here) refl (m .value) refl (maybe-back Kind.flags (Value.mark (m .value)) (not (m .value)) (m .here) c s)
+  where
+    go : (h : Bool) → m .here ≡ h → (b : Bool) → m .value ≡ b → {c : Cell} → Maybe Kind.flags (Value.mark (m .value)) (not b) h c → maybeMark c ≡ m
+    go true e b f there = λ i. record { here = sym e i; value = m .value }
+    go false e true f (absent t) = absurd t
+    go false e false f (absent t) = λ i. record { here = sym e i; value = sym f i }
+
 pub real-back : {x : Float} {c : Cell} → Shown Kind.reals (real x) c → figureIn c ≡ x
 real-back {x} s = ap figureIn (always-back Kind.reals (Value.figure x) s)
 
@@ -91,6 +99,14 @@ maybe-real-back h x {c} s = go (maybe-back Kind.reals (Value.figure x) (noBits x
     go : {h : Bool} {c : Cell} → Maybe Kind.reals (Value.figure x) (noBits x) h c → (here c ≡ h) × (figureIn c ≡ x)
     go there = (refl, refl)
     go (absent t) = (refl, no-bits x t)
+
+-- one whose plus zero isn't said
+pub unless-plus-zero-back : (x : Float) {c : Cell} → Shown Kind.singles (Says.unlessPlusZero x) c → figureIn c ≡ x
+unless-plus-zero-back x {c} s = go (maybe-back Kind.singles (Value.figure x) (noBits x) (not (noBits x)) c s)
+  where
+    go : {h : Bool} {c : Cell} → Maybe Kind.singles (Value.figure x) (noBits x) h c → figureIn c ≡ x
+    go there = refl
+    go (absent t) = no-bits x t
 
 no-place : (p : Position) → T (noPosition p) → origin ≡ p
 no-place p t =
@@ -149,10 +165,10 @@ module _ (size n : ℕ) (d : List ℕ) where
     none-back e t = (empty-back t e, sym e)
 
     string-shown : (b : Bool) → eqb n 0 ≡ b → (c : Cell) → Shown k (stringPart b) c → Back c
-    string-shown true q c (spoken v e t w) = some-none (sym e)
+    string-shown true q c (spoken v e t w) = none-some e
     string-shown true q c (silent e t) = none-back (eqb→eq n 0 (rw q tt)) t
     string-shown false q c (spoken v e t w) = good-back v (some-is e) t
-    string-shown false q c (silent e t) = some-none e
+    string-shown false q c (silent e t) = none-some (sym e)
 
     pub maybe-string-back : {c : Cell} → Shown k (stringIf size n d) c → Back c
     maybe-string-back {c} s = string-shown (eqb n 0) refl c s

@@ -1,20 +1,14 @@
 -- What rows say of a key: what the row that has it says, and nothing where none has it. By induction over the rows. Assumes nothing.
 use mathlib.Core.Path.{_≡_, refl, sym, ap, _∙_}
 use mathlib.Core.Bool.{Bool, true, false, _||_}
-use mathlib.Core.{List.List, List.[], List._∷_, Option.Option, Option.some, Option.none}
+use mathlib.Core.{List.List, List.[], List._∷_, Option.Option, Option.some}
 use Prim.Native.Nat.{ℕ}
-use native.Mathlib.Omega.{arith}
 use Rattle.octets.specs.Choice.{either}
 use Rattle.octets.proofs.Ranges.{true-false}
+use Rattle.octets.proofs.Truth.{none-some}
 use Rattle.names.specs.Names.{sameBytes}
 use Rattle.field.specs.Kind.{Value}
 use Rattle.saying.specs.Says.{Part, Saying, noPart, partIn}
-
-pub some-is : {A : Type 0} {a b : A} → some a ≡ some b → a ≡ b
-some-is e = cc
-
-pub some-none : {A B : Type 0} {a : A} → some a ≡ none → B
-some-none e = let z : _≡_ {A = ℕ} 0 1 = cc in absurd (omega arith)
 
 -- a key of one of the rows, and what they say of a key
 abbrev pub hasRow : List Saying → List ℕ → Bool
@@ -38,4 +32,4 @@ has-row rs k v e = go (hasRow rs k) refl
   where
     go : (b : Bool) → hasRow rs k ≡ b → hasRow rs k ≡ true
     go true q = q
-    go false q = some-none (sym e ∙ ap (λ (p : Part). p .said) (rowless rs k q))
+    go false q = none-some (sym (ap (λ (p : Part). p .said) (rowless rs k q)) ∙ e)

@@ -22,9 +22,12 @@ use Rattle.saying.proofs.{Sayings.cellBy, Sayings.cellsBy, Rows.hasRow,
 abbrev pub keptBy : Kind → Value → Value
 keptBy (Kind.wholes lo hi) v = v
 keptBy Kind.reals v = v
+keptBy Kind.singles v = v
 keptBy Kind.flags v = v
 keptBy Kind.positions v = v
 keptBy (Kind.arrays lo hi) v = v
+keptBy (Kind.counters many) v = v
+keptBy (Kind.pieces many most all) v = v
 keptBy (Kind.texts lo hi) v = v
 keptBy Kind.versions v = v
 keptBy Kind.words v = Value.nothing
@@ -49,9 +52,9 @@ no-row l (r ∷ rs) k t e = go (sameBytes (r .key) k) refl (no-row l rs k (both-
     go false q rest = rest
 
 -- each value that the rows say of a field, in its range, reads back
-abbrev pub ReadsBack : List Saying → Type 0
-ReadsBack rs =
-    (f : Field) (v : Value) → f .kind ≡ kindFor (f .key) → saysIn rs (f .key) ≡ some v → T (within (f .kind) v)
+abbrev pub ReadsBack : ℕ → List Saying → Type 0
+ReadsBack c rs =
+    (f : Field) (v : Value) → f .kind ≡ kindFor c (f .key) → saysIn rs (f .key) ≡ some v → T (within (f .kind) v)
     → judge (f .kind) (meaningOf (treeOf (f .kind) v)) ≡ some (keptBy (f .kind) v)
 
 -- each field of a list fits its part
@@ -59,8 +62,8 @@ abbrev pub AllFit : List Saying → List Field → Type 0
 AllFit rs [] = Unit {0}
 AllFit rs (f ∷ l) = T (fieldFits f (partIn rs (f .key))) × AllFit rs l
 
-module _ (rs : List Saying) (back : ReadsBack rs) where
-  module _ (f : Field) (j : f .kind ≡ kindFor (f .key)) where
+module _ (c : ℕ) (rs : List Saying) (back : ReadsBack c rs) where
+  module _ (f : Field) (j : f .kind ≡ kindFor c (f .key)) where
     cell-shown : (o : Option Value) → saysIn rs (f .key) ≡ o → T (partIn rs (f .key) .clean && saidFits f o) → Shown (f .kind) (partIn rs (f .key)) (cellBy f o)
     cell-shown none e t = silent e (both-left (partIn rs (f .key) .clean) (saidFits f none) t)
     cell-shown (some v) e t =
@@ -77,33 +80,33 @@ module _ (rs : List Saying) (back : ReadsBack rs) where
     cell-faultless (some v) e t = rw (back f v j e t)
 
   -- no fault
-  pub faultless : (l : List Field) (g i : ℕ) → T (agreed l) → AllFit rs l → gravest g i l (cellsBy (saysIn rs) l) ≡ g
+  pub faultless : (l : List Field) (g i : ℕ) → T (agreed c l) → AllFit rs l → gravest g i l (cellsBy (saysIn rs) l) ≡ g
   unfolding gravest
   faultless [] g i a t = refl
   faultless (f ∷ l) g i a t =
       let p = partIn rs (f .key) in
-      let z : cellFault (f .must) (cellBy f (saysIn rs (f .key))) ≡ 0 = cell-faultless f (first-agreed f l a) (saysIn rs (f .key)) refl (both-right (p .clean) (saidFits f (p .said)) (t .0)) in
+      let z : cellFault (f .must) (cellBy f (saysIn rs (f .key))) ≡ 0 = cell-faultless f (first-agreed c f l a) (saysIn rs (f .key)) refl (both-right (p .clean) (saidFits f (p .said)) (t .0)) in
       let e : max g (graded (cellFault (f .must) (cellBy f (saysIn rs (f .key)))) i) ≡ g = rw z (omega arith) in
-      rw e (faultless l g (suc i) (others-agreed f l a) (t .1))
+      rw e (faultless l g (suc i) (others-agreed c f l a) (t .1))
 
   module _ (k : List ℕ) where
     abbrev ShownAt : Cell → Type 0
-    ShownAt c = Shown (kindFor k) (partIn rs k) c
+    ShownAt x = Shown (kindFor c k) (partIn rs k) x
 
     -- a key of the list
-    own-shown : (f : Field) (l : List Field) → T (agreed (f ∷ l)) → AllFit rs (f ∷ l) → f .key ≡ k → ShownAt (cellBy f (saysIn rs (f .key)))
+    own-shown : (f : Field) (l : List Field) → T (agreed c (f ∷ l)) → AllFit rs (f ∷ l) → f .key ≡ k → ShownAt (cellBy f (saysIn rs (f .key)))
     own-shown f l a t e =
-        let j = first-agreed f l a in
-        subst (λ (j : Kind). Shown j (partIn rs k) (cellBy f (saysIn rs (f .key)))) (j ∙ ap kindFor e)
+        let j = first-agreed c f l a in
+        subst (λ (j : Kind). Shown j (partIn rs k) (cellBy f (saysIn rs (f .key)))) (j ∙ ap (kindFor c) e)
         (subst (λ (u : List ℕ). Shown (f .kind) (partIn rs u) (cellBy f (saysIn rs (f .key)))) e
         (cell-shown f j (saysIn rs (f .key)) refl (t .0)))
 
-    each-shown : (l : List Field) → T (agreed l) → AllFit rs l → Each (λ f c. f .key ≡ k → ShownAt c) l (cellsBy (saysIn rs) l)
+    each-shown : (l : List Field) → T (agreed c l) → AllFit rs l → Each (λ f x. f .key ≡ k → ShownAt x) l (cellsBy (saysIn rs) l)
     each-shown [] a t = tt
-    each-shown (f ∷ l) a t = (own-shown f l a t, each-shown l (others-agreed f l a) (t .1))
+    each-shown (f ∷ l) a t = (own-shown f l a t, each-shown l (others-agreed c f l a) (t .1))
 
     -- every key
-    pub shown-in : (l : List Field) → T (agreed l) → AllFit rs l → T (areListed l rs) → ShownAt (lookIn Cell.missing l (cellsBy (saysIn rs) l) k)
+    pub shown-in : (l : List Field) → T (agreed c l) → AllFit rs l → T (areListed l rs) → ShownAt (lookIn Cell.missing l (cellsBy (saysIn rs) l) k)
     shown-in l a t o = go (lacks l k) refl
       where
         go : (b : Bool) → lacks l k ≡ b → ShownAt (lookIn Cell.missing l (cellsBy (saysIn rs) l) k)

@@ -9,7 +9,7 @@ use Rattle.octets.specs.Choice.{either}
 use Rattle.names.specs.Names.{bytes, sameBytes}
 use Rattle.field.specs.Kind.{Value}
 use Rattle.field.specs.declared.Position.{Position}
-use Rattle.message.specs.declared.{MaybeWord.MaybeWord, MaybeId.MaybeId, MaybePosition.MaybePosition, MaybeVersion.MaybeVersion}
+use Rattle.message.specs.declared.{MaybeWord.MaybeWord, MaybeId.MaybeId, MaybeMark.MaybeMark, MaybePosition.MaybePosition, MaybeVersion.MaybeVersion}
 
 -- what a part of a record says, if anything; and whether nothing is in it beside that
 pub record Part : Type 0 where
@@ -59,6 +59,9 @@ wordIf w = saidIf (w .here) (Value.number (pos (w .value))) (eqb (w .value) 0)
 abbrev pub idIf : MaybeId → Part
 idIf w = saidIf (w .here) (Value.number (w .value)) (isZero (w .value))
 
+abbrev pub markIf : MaybeMark → Part
+markIf w = saidIf (w .here) (Value.mark (w .value)) (not (w .value))
+
 abbrev pub positionValue : Position → Value
 positionValue p = Value.position (p .latitude) (p .longitude) (p .altitude)
 
@@ -77,6 +80,17 @@ versionIf w = saidIf (w .here) (releaseValue w) (noRelease w)
 -- a number whose zero isn't written
 abbrev pub unlessZero : ℕ → Part
 unlessZero n = saidIf (not (eqb n 0)) (Value.number (pos n)) (eqb n 0)
+
+-- a real whose plus zero isn't
+abbrev pub unlessPlusZero : Float → Part
+unlessPlusZero x = saidIf (not (noBits x)) (Value.figure x) (noBits x)
+
+-- counters, where they are said
+abbrev pub countsIf : Bool → List ℕ → Part
+countsIf here ns = saidIf here (Value.counts ns) true
+
+abbrev pub strings : List (List ℕ) → Part
+strings ds = always (Value.strings ds)
 
 abbrev pub areNulls : ℕ → List ℕ → Bool
 areNulls n d = sameBytes d (replicate n 0)

@@ -6,7 +6,7 @@ use lib.ListN.{length}
 use Rattle.octets.specs.{Choice.either, Bytes.littleBytes}
 use Rattle.frame.specs.Frame.{identifier}
 use Rattle.element.specs.{Tree.Tree, Tree.Pairs, Tree.Tree.leaf, Tree.Pairs.end, Tree.Pairs.pair}
-use Rattle.forms.specs.Shortest.{wholeTree, realTree, markTree, textTree, octetsTree, positionTree, versionText}
+use Rattle.forms.specs.Shortest.{wholeTree, realTree, markTree, textTree, numbersTree, piecesTree, positionTree, versionText}
 use Rattle.field.specs.Kind.{Kind, Value}
 use Rattle.message.specs.Fields.{Field}
 
@@ -14,9 +14,12 @@ use Rattle.message.specs.Fields.{Field}
 abbrev pub asArray : Kind → Bool
 asArray (Kind.wholes lo hi) = false
 asArray Kind.reals = false
+asArray Kind.singles = false
 asArray Kind.flags = false
 asArray Kind.positions = false
 asArray (Kind.arrays lo hi) = true
+asArray (Kind.counters many) = false
+asArray (Kind.pieces many most all) = false
 asArray (Kind.texts lo hi) = false
 asArray Kind.versions = false
 asArray Kind.words = false
@@ -29,7 +32,9 @@ treeOf k (Value.number z) = wholeTree z
 treeOf k (Value.figure x) = realTree x
 treeOf k (Value.mark b) = markTree b
 treeOf k (Value.position x y z) = positionTree x y z
-treeOf k (Value.string d) = either (asArray k) (λ _. octetsTree d) (λ _. textTree d)
+treeOf k (Value.string d) = either (asArray k) (λ _. numbersTree d) (λ _. textTree d)
+treeOf k (Value.counts ns) = numbersTree ns
+treeOf k (Value.strings ds) = piecesTree ds
 treeOf k (Value.release a b c) = textTree (versionText a b c)
 
 abbrev pub pairBy : Field → Option Value → Pairs → Pairs

@@ -26,4 +26,5 @@ module _ (P : Outcome → Type 0) where
   by-con (Body.AttPrp c) f x p q = q
   by-con (Body.DetPrp c) f x p q = q
   by-con (Body.UlData c) f x p q = q
+  by-con (Body.DlDataQue c) f x p q = q
   by-con (Body.Bare c) f x p q = q

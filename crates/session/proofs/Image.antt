@@ -11,7 +11,7 @@ use lib.ListN.{length, getD, take, drop, replicate, take-append-drop, length-dro
 use lib.Seq.{take-add, drop-drop, drop-cons, length-take-le}
 use borrow.Author.Tests.{eqb-true, ltb-true, ltb-false, ne-eqb}
 use Rattle.octets.specs.{Choice.either, Bytes.IsBytes, Bytes.markByte, Signed.bitsOf, Signed.signedOf}
-use Rattle.octets.proofs.{Ranges.true-false, Widths.little-below, Digits.little-again}
+use Rattle.octets.proofs.{Truth.both, Widths.little-below, Digits.little-again}
 use Rattle.session.specs.Session.{Session}
 use Rattle.session.specs.Image.{stateByte, stateOf, idsOf, kindsOf, wordsOf, tailOf, wordBytes, sessionImage, wordAt, entriesAt, sessionAt, areZeros, isSession}
 
@@ -21,10 +21,6 @@ pub record Tested (d : List ℕ) : Type 0 where
   pub state : getD d 344 0 < 3
   pub stored : getD d 345 0 < 2
   pub spare : areZeros (drop 346 d) ≡ true
-
-both : (a b : Bool) → a && b ≡ true → (a ≡ true) × (b ≡ true)
-both true b e = (refl, e)
-both false b e = true-false (sym e)
 
 pub tested : (d : List ℕ) → isSession d ≡ true → Tested d
 unfolding isSession

@@ -1,8 +1,8 @@
 -- What the judgement of a record says of what a session takes from it: its ID has 64 bits, and a con's bsEui too. Each is mandatory in the command's
 -- list, so the range of its kind holds. A con's snBsUuid has 16 bytes. Assumes nothing.
-use mathlib.Core.Path.{_≡_, refl, subst, _∙_}
-use mathlib.Core.{Bool.Bool, Bool.true, Bool.false, List.List, List.[], List._∷_}
-use Prim.Native.Nat.{ℕ, zero, suc, _^_, _<_}
+use mathlib.Core.Path.{_≡_, subst, _∙_}
+use mathlib.Core.{Bool.Bool, Bool.true, Bool.false, List.List, List._∷_}
+use Prim.Native.Nat.{ℕ, suc, _^_, _<_}
 use native.Mathlib.Omega.{arith}
 use lib.{Dec.T, Dec.leb→le, IntN.ℤ, IntN.pos, IntN.negsuc, ListN.length, ListN.drop, ListN.length-append}
 use mir.Syntax.{w64}
@@ -11,26 +11,12 @@ use borrow.Author.Tests.{eqb-true}
 use Rattle.octets.specs.{Bytes.bigBytes, Choice.either}
 use Rattle.octets.proofs.Digits.{length-big}
 use Rattle.field.specs.Judge.{inRange}
-use Rattle.message.specs.Fields.{Field, headed, lists, listIn, fieldsOf}
+use Rattle.message.specs.Fields.{Field, lists, listIn, fieldsOf}
 use Rattle.saying.specs.{Says.Part, Says.partIn, Fits.within, Fits.fieldFits}
 use Rattle.record.specs.declared.{Con.Con, Sixteen.Sixteen, Body.Body, Message.Message}
 use Rattle.record.specs.{Record.commandIn, Fits.firstFault, Fits.faultIn, Fits.fits}
 use Rattle.record.specs.Says.{sixteenBytes, bodySayings, sayingsOf, partOf}
-
--- every list begins with command and opId
-abbrev AllHeaded : List (List Field) → Type 0
-AllHeaded [] = Unit {0}
-AllHeaded (l ∷ ls) = (l ≡ headed (drop 2 l)) × AllHeaded ls
-
-headed-in : (ls : List (List Field)) → AllHeaded ls → (c : ℕ) → listIn ls c ≡ headed (drop 2 (listIn ls c))
-unfolding listIn
-headed-in [] a c = refl
-headed-in (l ∷ ls) a zero = a .0
-headed-in (l ∷ ls) a (suc c) = headed-in ls (a .1) c
-
-fields-headed : (c : ℕ) → fieldsOf c ≡ headed (drop 2 (fieldsOf c))
-unfolding lists
-fields-headed c = headed-in lists (refl, (refl, (refl, (refl, (refl, (refl, (refl, (refl, tt)))))))) c
+use Rattle.record.proofs.Commands.{command, begins}
 
 in-64 : (z : ℤ) → T (inRange 0x8000000000000000 0x7FFFFFFFFFFFFFFF z) → SFits w64 z
 in-64 (pos n) t = record { sfits = omega (arith, leb→le n 0x7FFFFFFFFFFFFFFF t) }
@@ -63,7 +49,7 @@ module _ (m : Message) (d : List ℕ) (t : fits m d ≡ true) where
   unfolding within sayingsOf partIn
   id-fits =
       let l = drop 2 (fieldsOf (commandIn (m .body))) in
-      let behind = first-fits (partOf m d) 0 _ _ (subst (Faultless (partOf m d) 0) (fields-headed (commandIn (m .body))) faultless) .1 in
+      let behind = first-fits (partOf m d) 0 _ _ (subst (Faultless (partOf m d) 0) (begins (command (commandIn (m .body)))) faultless) .1 in
       in-64 (m .«op_id») (first-fits (partOf m d) 1 _ l behind .0)
 
   pub eui-fits : (x : Con) → m .body ≡ Body.Con x → x .«bs_eui» < 2 ^ 64

@@ -1,18 +1,13 @@
 -- The places of one side: the first that passes a test is among them and passes it, none before it does; a table keeps its length; taking a free
 -- place opens one entry more, and freeing one that is open leaves one fewer. By induction over the places. Assumes nothing.
-use mathlib.Core.{Path._≡_, Path.refl, Path.ap, Bool.Bool, Bool.true, Bool.false, List.List, List.[], List._∷_, Option.some, Option.none}
+use mathlib.Core.{Path._≡_, Path.refl, Path.ap, Bool.Bool, Bool.true, Bool.false, List.List, List.[], List._∷_, Option.some}
 use Prim.Native.Nat.{ℕ, zero, suc, _+_, _-_, _≤_, _<_}
 use native.Mathlib.Omega.{arith}
 use lib.ListN.{length, set, getD}
 use Rattle.octets.specs.Choice.{either}
+use Rattle.octets.proofs.Truth.{some-is, none-some}
 use Rattle.session.specs.Session.{Entry}
 use Rattle.session.specs.Place.{isFree, noEntry, firstFrom, openIn}
-
-some-is : {a b : ℕ} → some a ≡ some b → a ≡ b
-some-is e = cc
-
-none-some : {A : Type 0} {a : ℕ} → none ≡ some a → A
-none-some e = let z : _≡_ {A = ℕ} 0 1 = cc in absurd (omega arith)
 
 -- where the first that passes stands
 module _ (f : Entry → Bool) where

@@ -88,6 +88,7 @@ conIn (Body.DetRsp sign) = none
 conIn (Body.AttPrp x) = none
 conIn (Body.DetPrp eui) = none
 conIn (Body.UlData x) = none
+conIn (Body.DlDataQue x) = none
 conIn (Body.Bare c) = none
 
 abbrev pub orOutcome : {A : Type 0} → Option A → (A → Outcome) → (Unit {0} → Outcome) → Outcome

@@ -37,7 +37,7 @@ ifOpen Waiting f = Outcome.refused 17
 ifOpen Connecting f = Outcome.refused 17
 ifOpen Open f = f tt
 
--- the centre starts ping, status, attPrp, detPrp; the message is written under the ID issued
+-- the centre starts one of its operations; the message is written under the ID issued
 abbrev pub kindBegins : Session → ℕ → Message → List ℕ → Outcome
 kindBegins s c m d = orOutcome (operationBy (λ o. o .start) centreStarts c) (λ o. begins s o m d) (λ _. Outcome.refused 17)
 

@@ -24,13 +24,14 @@ stationStarts =
     operation "ulData" "ulDataRsp" "ulDataCmp" ∷
     []
 
--- the centre starts ping, status, attPrp, detPrp
+-- the centre starts ping, status, attPrp, detPrp, and by document 02, Q-2, dlDataQue
 unfoldable pub centreStarts : List Operation
 centreStarts =
     operation "ping" "pingRsp" "pingCmp" ∷
     operation "status" "statusRsp" "statusCmp" ∷
     operation "attPrp" "attPrpRsp" "attPrpCmp" ∷
     operation "detPrp" "detPrpRsp" "detPrpCmp" ∷
+    operation "dlDataQue" "dlDataQueRsp" "dlDataQueCmp" ∷
     []
 
 -- the first operation whose message is c

@@ -1,15 +1,16 @@
 -- Arrays and maps with their shortest heads are lawful where what they hold is, and mean the list and the table of it.
--- Bytes as an array of numbers: as many elements as bytes, in at most twice as many. Assumes nothing.
+-- Numbers as an array: as many elements as numbers, each of at most the bytes of a width that holds all and a lead byte. Assumes nothing.
 use mathlib.Core.{Path._≡_, Path.refl, Path.ap, List.List, List.[], List._∷_}
 use Prim.Native.Nat.{ℕ, suc, _+_, _*_, _^_, _≤_, _<_}
+use native.Mathlib.Nat.{mul-suc}
 use native.Mathlib.Omega.{arith}
-use lib.{Dec.T, Dec.ltb, Dec.ltb→lt, IntN.pos, ListN.length, ListN.length-append, Pow.areBytes}
-use Rattle.octets.proofs.Ranges.{both-left, both-right}
+use lib.{Dec.T, IntN.pos, ListN.length, ListN.getD, ListN.length-append, Pow.areBytes}
+use Rattle.octets.proofs.Ranges.{are-bytes}
 use Rattle.element.specs.declared.Shape.the-variants.{Array, Map}
 use Rattle.element.specs.{Lead.Class, Meaning.meaningOf, Meaning.meaningOfAll, Meaning.meaningOfPairs, Meaning.Element.list, Meaning.Element.table}
 use Rattle.element.specs.Tree.{Trees, Pairs, bytesOf, bytesOfAll, bytesOfPairs, countOf, countOfAll, countOfPairs, depthOf, depthOfAll, depthOfPairs, partCount, pairCount, shapeOfTree, Lawful, LawfulAll, LawfulPairs}
 use Rattle.forms.specs.Shortest.{wholeTree, arrayHead, arrayTree, mapHead, mapTree, numberTrees}
-use Rattle.shortest.proofs.Wholes.{whole-count, whole-depth, pos-lawful, byte-length}
+use Rattle.shortest.proofs.Wholes.{whole-count, whole-depth, pos-lawful, pos-length}
 use Rattle.shortest.proofs.Heads.{head-lawful, many-size, many-size-few, many-size-two, array-heads, map-heads}
 
 -- the bytes of length behind the lead byte
@@ -82,7 +83,7 @@ module _ (ps : Pairs) where
   unfolding mapTree Lawful
   map-lawful h L = (head-lawful Class.map (pairCount ps) (mapHead (pairCount ps)) (map-heads (pairCount ps) h), L)
 
--- bytes as numbers
+-- numbers as an array
 pub numbers-lawful : (d : List ℕ) → LawfulAll (numberTrees d)
 unfolding numberTrees Lawful
 numbers-lawful [] = tt
@@ -103,13 +104,21 @@ unfolding numberTrees depthOf
 numbers-depth [] = omega arith
 numbers-depth (b ∷ d) = omega (arith, whole-depth (pos b), numbers-depth d)
 
-pub numbers-length : (d : List ℕ) → T (areBytes d) → length (bytesOfAll (numberTrees d)) ≤ 2 * length d
+-- in as many bytes each as a width that holds them all, and the lead byte
+pub numbers-length-by : (i : ℕ) (ns : List ℕ) → ((k : ℕ) → getD ns k 0 < 2 ^ (8 * 2 ^ i)) → length (bytesOfAll (numberTrees ns)) ≤ (1 + 2 ^ i) * length ns
 unfolding numberTrees bytesOf
-numbers-length [] t = omega arith
-numbers-length (b ∷ d) t =
+numbers-length-by i [] h = omega arith
+numbers-length-by i (n ∷ ns) h =
     omega (
       arith,
-      length-append (bytesOf (wholeTree (pos b))) (bytesOfAll (numberTrees d)),
-      byte-length b (ltb→lt b 256 (both-left (ltb b 256) (areBytes d) t)),
-      numbers-length d (both-right (ltb b 256) (areBytes d) t),
+      length-append (bytesOf (wholeTree (pos n))) (bytesOfAll (numberTrees ns)),
+      pos-length n i (h 0),
+      numbers-length-by i ns (λ k. h (suc k)),
+      mul-suc (1 + 2 ^ i) (length ns),
     )
+
+pub numbers-length : (d : List ℕ) → T (areBytes d) → length (bytesOfAll (numberTrees d)) ≤ 2 * length d
+numbers-length d t = numbers-length-by 0 d (are-bytes d t)
+
+pub counters-length : (ns : List ℕ) → ((k : ℕ) → getD ns k 0 < 2 ^ 32) → length (bytesOfAll (numberTrees ns)) ≤ 5 * length ns
+counters-length ns h = numbers-length-by 2 ns h

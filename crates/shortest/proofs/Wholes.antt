@@ -152,6 +152,3 @@ module _ (n : ℕ) where
       let j = widthOf (2 * n + 1) in
       by-negsuc n (λ t. length (bytesOf t) ≤ 1 + 2 ^ i) (λ l. omega (arith, pow-pos i))
       (λ g. omega (arith, length-big (2 ^ j) (2 ^ (8 * 2 ^ j) - suc n), width-least i (2 * n + 1) h))
-
-pub byte-length : (b : ℕ) → b < 256 → length (bytesOf (wholeTree (pos b))) ≤ 2
-byte-length b h = pos-length b 0 h

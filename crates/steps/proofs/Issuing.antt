@@ -12,7 +12,7 @@ use mir.Val.{SFits, toZ, ofZ}
 use mir.ValLaws.{toZ-ofZ}
 use borrow.Author.Tests.{eq-eqb, ne-eqb, eqb-true, eqb-false, ltb-false}
 use Rattle.octets.specs.Choice.{either}
-use Rattle.octets.proofs.Ranges.{true-false}
+use Rattle.octets.proofs.{Ranges.true-false, Truth.both}
 use Rattle.names.specs.Names.{commands, placeIn, commandOf}
 use Rattle.record.specs.declared.{Body.Body, Message.Message}
 use Rattle.record.specs.Record.{commandIn}
@@ -22,7 +22,7 @@ use Rattle.session.specs.Centre.{oneBelow, lastId, underId, beginAt, begins, ki
 use Rattle.steps.specs.declared.Answer.{Answer}
 use Rattle.steps.specs.code.Lies.{startedBy, unnumbered}
 use Rattle.steps.specs.Called.{Called, called, refusedAs, calledBy}
-use Rattle.steps.proofs.{Tests.unset, Tests.both, Calls.by-outcome, Calls.refused-call, Knowing.kept, Knowing.result-bits}
+use Rattle.steps.proofs.{Tests.unset, Calls.by-outcome, Calls.refused-call, Knowing.kept, Knowing.result-bits}
 
 -- the lowest that counts is not above 0
 not-above : (b : Bool) (z : ℤ) → ltZ (pos 0) z ≡ b → ltZ (pos 0) (either b (λ _. pos 0) (λ _. z)) ≡ false
@@ -95,31 +95,34 @@ begin-any s o m lent = ap (λ (x : Outcome). either (sameId (lowestOf s) lastId)
     go none = refl
     go (some i) = refl
 
--- none of the four, as the code tests it
+-- none of the five, as the code tests it
 abbrev isNone : ℕ → Bool
-isNone k = ((not (eqb k 9) && not (eqb k 12)) && not (eqb k 5)) && not (eqb k 6)
+isNone k = (((not (eqb k 9) && not (eqb k 12)) && not (eqb k 5)) && not (eqb k 6)) && not (eqb k 21)
 
 kind-is : (k : ℕ) (s : Session) (m : Message) (lent : List ℕ) → isNone k ≡ false → kindBegins s k m lent ≡ begins s (startedBy k 0) m lent
 unfolding operationBy centreStarts commandOf commands placeIn
-kind-is k s m lent = go (eqb k 9) (eqb k 12) (eqb k 5) (eqb k 6) refl refl refl refl
+kind-is k s m lent = go (eqb k 9) (eqb k 12) (eqb k 5) (eqb k 6) (eqb k 21) refl refl refl refl refl
   where
     at : (n : ℕ) → eqb k n ≡ true → kindBegins s n m lent ≡ begins s (startedBy n 0) m lent → kindBegins s k m lent ≡ begins s (startedBy k 0) m lent
     at n e h = subst (λ (j : ℕ). kindBegins s j m lent ≡ begins s (startedBy j 0) m lent) (sym (eqb-true k n e)) h
 
-    go : (a b c d : Bool) → eqb k 9 ≡ a → eqb k 12 ≡ b → eqb k 5 ≡ c → eqb k 6 ≡ d → ((not a && not b) && not c) && not d ≡ false → kindBegins s k m lent ≡ begins s (startedBy k 0) m lent
-    go true b c d p q r t e = at 9 p (begin-any s _ m lent)
-    go false true c d p q r t e = at 12 q (begin-any s _ m lent)
-    go false false true d p q r t e = at 5 r (begin-any s _ m lent)
-    go false false false true p q r t e = at 6 t (begin-any s _ m lent)
-    go false false false false p q r t e = true-false e
+    go : (a b c d f : Bool) → eqb k 9 ≡ a → eqb k 12 ≡ b → eqb k 5 ≡ c → eqb k 6 ≡ d → eqb k 21 ≡ f → (((not a && not b) && not c) && not d) && not f ≡ false
+        → kindBegins s k m lent ≡ begins s (startedBy k 0) m lent
+    go true b c d f p q r t u e = at 9 p (begin-any s _ m lent)
+    go false true c d f p q r t u e = at 12 q (begin-any s _ m lent)
+    go false false true d f p q r t u e = at 5 r (begin-any s _ m lent)
+    go false false false true f p q r t u e = at 6 t (begin-any s _ m lent)
+    go false false false false true p q r t u e = at 21 u (begin-any s _ m lent)
+    go false false false false false p q r t u e = true-false e
 
 kind-none : (k : ℕ) (s : Session) (m : Message) (lent : List ℕ) → isNone k ≡ true → kindBegins s k m lent ≡ Outcome.refused 17
 unfolding operationBy centreStarts commandOf commands placeIn
 kind-none k s m lent e =
-    let a = both ((not (eqb k 9) && not (eqb k 12)) && not (eqb k 5)) (not (eqb k 6)) e in
-    let b = both (not (eqb k 9) && not (eqb k 12)) (not (eqb k 5)) (a .0) in
-    let c = both (not (eqb k 9)) (not (eqb k 12)) (b .0) in
-    simp (other 9 (c .0), other 12 (c .1), other 5 (b .1), other 6 (a .1))
+    let a = both (((not (eqb k 9) && not (eqb k 12)) && not (eqb k 5)) && not (eqb k 6)) (not (eqb k 21)) e in
+    let b = both ((not (eqb k 9) && not (eqb k 12)) && not (eqb k 5)) (not (eqb k 6)) (a .0) in
+    let c = both (not (eqb k 9) && not (eqb k 12)) (not (eqb k 5)) (b .0) in
+    let d = both (not (eqb k 9)) (not (eqb k 12)) (c .0) in
+    simp (other 9 (d .0), other 12 (d .1), other 5 (c .1), other 6 (b .1), other 21 (a .1))
   where
     other : (n : ℕ) → not (eqb k n) ≡ true → eqb n k ≡ false
     other n e = ne-eqb n k (λ p. eqb-false k n (unset (eqb k n) e) (sym p))

@@ -142,9 +142,12 @@ module _ (b : Body) where
   pub ul-data-none : (x : _) → b ≡ Body.UlData x → conIn b ≡ none
   ul-data-none x e = rw e
 
+  pub dl-data-que-none : (x : _) → b ≡ Body.DlDataQue x → conIn b ≡ none
+  dl-data-que-none x e = rw e
+
   pub bare-none : (x : ℕ) → b ≡ Body.Bare x → conIn b ≡ none
   bare-none x e = rw e
 
-pub ruleset others = (con-rsp-none, status-rsp-none, det-none, det-rsp-none, att-prp-none, det-prp-none, ul-data-none, bare-none)
+pub ruleset others = (con-rsp-none, status-rsp-none, det-none, det-rsp-none, att-prp-none, det-prp-none, ul-data-none, dl-data-que-none, bare-none)
 
 pub ruleset openings = (con-opened, con-not-opened, resume-unsent, resume-sent, anew-unsent, anew-sent, con-other-id, con-other-version, con-resumes, con-anew, waiting-con, waiting-other, others)

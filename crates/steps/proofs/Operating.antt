@@ -74,6 +74,7 @@ pub record Known : Type 0 where
   pub statusRsp : Answers 2 12 13
   pub attPrpRsp : Answers 15 5 16
   pub detPrpRsp : Answers 17 6 18
+  pub dlDataQueRsp : Answers 22 21 23
 
 pub known : Known
 unfolding inOpen operationBy stationStarts centreStarts commandOf commands placeIn
@@ -88,6 +89,7 @@ known = record {
   statusRsp = record { is = λ s g z. answer-any s _ z };
   attPrpRsp = record { is = λ s g z. answer-any s _ z };
   detPrpRsp = record { is = λ s g z. answer-any s _ z };
+  dlDataQueRsp = record { is = λ s g z. answer-any s _ z };
 }
 
 module _ (d room : List ℕ) (sign command n : ℕ) (z : ℤ) (f : SFits w64 z) (e : command ≡ n) where
@@ -107,11 +109,11 @@ module _ (d room : List ℕ) (sign command n : ℕ) (z : ℤ) (f : SFits w64 z) 
   open-answer k a c p h = p ∙ by-command (λ y. respondAt (sessionAt d) (endedBy k a) y (entryPlace y k (sessionAt d .centre))) (h .is (sessionAt d) sign)
 
 pub open-none : (d room : List ℕ) (sign c : ℕ) (z : ℤ) (r : Answer)
-    → (c ≡ 9 → ⊥) → (c ≡ 3 → ⊥) → (c ≡ 7 → ⊥) → (c ≡ 11 → ⊥) → (c ≡ 14 → ⊥) → (c ≡ 20 → ⊥) → (c ≡ 10 → ⊥) → (c ≡ 2 → ⊥) → (c ≡ 15 → ⊥) → (c ≡ 17 → ⊥)
+    → (c ≡ 9 → ⊥) → (c ≡ 3 → ⊥) → (c ≡ 7 → ⊥) → (c ≡ 11 → ⊥) → (c ≡ 14 → ⊥) → (c ≡ 20 → ⊥) → (c ≡ 10 → ⊥) → (c ≡ 2 → ⊥) → (c ≡ 15 → ⊥) → (c ≡ 17 → ⊥) → (c ≡ 22 → ⊥)
     → r ≡ refusedAs 17 → _≡_ {A = Called} (called r d room) (calledBy d room (inOpen (sessionAt d) sign c z))
 unfolding inOpen operationBy stationStarts centreStarts commandOf commands placeIn
-open-none d room sign c z r a b e f g h i j k l p =
+open-none d room sign c z r a b e f g h i j k l m p =
     refused-call d room (inOpen (sessionAt d) sign c z) r 17 p
-    (simp (ne-eqb 9 c (λ q. a (sym q)), ne-eqb 3 c (λ q. b (sym q)), ne-eqb 7 c (λ q. e (sym q)), ne-eqb 11 c (λ q. f (sym q)), ne-eqb 14 c (λ q. g (sym q)), ne-eqb 20 c (λ q. h (sym q)), ne-eqb 10 c (λ q. i (sym q)), ne-eqb 2 c (λ q. j (sym q)), ne-eqb 15 c (λ q. k (sym q)), ne-eqb 17 c (λ q. l (sym q))))
+    (simp (ne-eqb 9 c (λ q. a (sym q)), ne-eqb 3 c (λ q. b (sym q)), ne-eqb 7 c (λ q. e (sym q)), ne-eqb 11 c (λ q. f (sym q)), ne-eqb 14 c (λ q. g (sym q)), ne-eqb 20 c (λ q. h (sym q)), ne-eqb 10 c (λ q. i (sym q)), ne-eqb 2 c (λ q. j (sym q)), ne-eqb 15 c (λ q. k (sym q)), ne-eqb 17 c (λ q. l (sym q)), ne-eqb 22 c (λ q. m (sym q))))
 
 pub ruleset operations = (start-late, start-timely, open-start, open-complete, open-answer, open-none)

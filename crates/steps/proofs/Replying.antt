@@ -1,25 +1,26 @@
 -- The messages that a session sends are in their ranges: the replies are, whatever arrived, since their IDs and numbers have their types' widths, and
 -- what the centre starts is judged before. So the writing of a step's message can be refused with 20 alone. Assumes nothing.
-use mathlib.Core.{Path._≡_, Path.refl, Option.Option, Option.some, Option.none}
+use mathlib.Core.{Path._≡_, Path.refl, Path.sym, Option.Option, Option.some, Option.none}
 use mathlib.Core.Bool.{Bool, true, false, _&&_, _||_}
 use mathlib.Core.List.{List, [], _∷_, _++_}
-use Prim.Native.Nat.{ℕ, zero, suc, _/_, _%_, _^_, _≤_, _<_}
+use Prim.Native.Nat.{ℕ, zero, suc, _/_, _%_, _^_, _<_}
 use native.Mathlib.Nat.{mod-lt}
 use native.Mathlib.Omega.{arith}
-use lib.Dec.{eqb, leb, ltb, lit<}
+use lib.Dec.{eqb, ltb, lit<}
 use lib.{IntN.ℤ, IntN.pos, IntN.negsuc, Pow.areBytes}
 use mir.Syntax.{w64}
 use mir.Val.{SFits}
-use borrow.Author.Tests.{le-leb, lt-ltb, leb-true}
+use borrow.Author.Tests.{le-leb, lt-ltb}
 use Rattle.octets.specs.{Bytes.bigBytes, Choice.either}
-use Rattle.octets.proofs.Digits.{length-big}
+use Rattle.octets.proofs.{Digits.length-big, Ranges.true-is, Truth.both}
 use Rattle.names.specs.Names.{commands, placeIn, bytes, commandOf}
 use Rattle.field.specs.Judge.{inRange}
-use Rattle.message.specs.Fields.{headed, lists, listIn, fieldsOf}
+use Rattle.message.specs.Fields.{lists, listIn}
 use Rattle.saying.specs.{Says.partIn, Fits.within}
 use Rattle.record.specs.declared.{Sixteen.Sixteen, Message.Message}
 use Rattle.record.specs.{Record.fourOf, Record.sixteenOf, Record.commandIn, Fits.firstFault, Fits.faultIn, Fits.fits}
 use Rattle.record.specs.Says.{sixteenBytes, isBare, bodySayings, sayingsOf}
+use Rattle.record.proofs.Commands.{bare-past, bare-other, bare-list}
 use Rattle.session.specs.{Session.State, Session.Session, Session.Host, Session.State.Waiting, Session.State.Connecting, Session.State.Open}
 use Rattle.session.specs.{Place.sameId, Place.freePlace, Place.entryPlace}
 use Rattle.session.specs.Kinds.{Operation, stationStarts, centreStarts, operationBy}
@@ -28,7 +29,6 @@ use Rattle.session.specs.Centre.{oneBelow, lastId, underId, beginAt, begins, ki
 use Rattle.session.proofs.Cases.{by-test, by-result, by-choice, by-con}
 use Rattle.session.proofs.Judged.{sixteen-long}
 use Rattle.steps.specs.code.Lies.{isReply}
-use Rattle.steps.proofs.Tests.{both}
 
 signed-in : (z : ℤ) → SFits w64 z → inRange 0x8000000000000000 0x7FFFFFFFFFFFFFFF z ≡ true
 signed-in (pos n) h = le-leb n 0x7FFFFFFFFFFFFFFF (omega arith)
@@ -48,25 +48,12 @@ sixteen-are : (x : Sixteen) → areBytes (sixteenBytes x) ≡ true
 unfolding sixteenBytes
 sixteen-are x = both-are (bigBytes 8 (x .high)) (bigBytes 8 (x .low)) (big-are 8 (x .high)) (big-are 8 (x .low))
 
--- a command past the lists has nothing more
-bare-fields : (c : ℕ) → 8 ≤ c → fieldsOf c ≡ headed []
-unfolding lists listIn
-bare-fields zero h = absurd (omega arith)
-bare-fields (suc zero) h = absurd (omega arith)
-bare-fields (suc (suc zero)) h = absurd (omega arith)
-bare-fields (suc (suc (suc zero))) h = absurd (omega arith)
-bare-fields (suc (suc (suc (suc zero)))) h = absurd (omega arith)
-bare-fields (suc (suc (suc (suc (suc zero))))) h = absurd (omega arith)
-bare-fields (suc (suc (suc (suc (suc (suc zero)))))) h = absurd (omega arith)
-bare-fields (suc (suc (suc (suc (suc (suc (suc zero))))))) h = absurd (omega arith)
-bare-fields (suc (suc (suc (suc (suc (suc (suc (suc c)))))))) h = refl
-
 -- the replies, whatever is lent beside them
 module _ (d : List ℕ) where
   module _ (z : ℤ) (h : SFits w64 z) where
     pub bare-fits : (c : ℕ) → isBare c ≡ true → fits (bareOf c z) d ≡ true
     unfolding faultIn firstFault sayingsOf bodySayings within partIn
-    bare-fits c e = rw (bare-fields c (leb-true 8 c (both (leb 8 c) (ltb c 21) e .0))) (simp (e, signed-in z h))
+    bare-fits c e = let t = true-is (isBare c) (sym e) in rw (bare-list (bare-past c t) (bare-other c t)) (simp (e, signed-in z h))
 
     pub det-rsp-fits : (sign : ℕ) → fits (detRspOf z sign) d ≡ true
     unfolding faultIn firstFault sayingsOf bodySayings within lists listIn partIn
@@ -148,7 +135,7 @@ module _ (s : Session) (m : Message) (h : Host) (a : Able m h) where
 
     all-answered : Each (λ o. Fitting (respondAt s o z (entryPlace z (o .start) (s .centre)))) centreStarts
     unfolding centreStarts commandOf commands placeIn
-    all-answered = (answered _ refl, (answered _ refl, (answered _ refl, (answered _ refl, tt))))
+    all-answered = (answered _ refl, (answered _ refl, (answered _ refl, (answered _ refl, (answered _ refl, tt)))))
 
     operating : (sign c : ℕ) → Fitting (inOpen s sign c z)
     unfolding inOpen

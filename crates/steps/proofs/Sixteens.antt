@@ -12,14 +12,13 @@ use mir.Syntax.{w64}
 use mir.Val.{Fits}
 use borrow.Author.Tests.{eq-eqb, eqb-true}
 use Rattle.octets.specs.{Number.bigAt, Number.ifThere, Bytes.IsBytes, Bytes.bigBytes, Bytes.putAt, code.Put.putNumber}
-use Rattle.octets.proofs.{Digits.length-big, Digits.big-here, Digits.big-again, Places.same-big, Ranges.same-test}
+use Rattle.octets.proofs.{Digits.length-big, Digits.big-here, Digits.big-again, Places.same-big, Ranges.same-test, Truth.both}
 use Rattle.octets.proofs.{Reading.Told, Reading.is-bytes, Reading.if-there}
 use Rattle.octets.proofs.Writing.{put-then, put-next, put-none, length-put}
 use Rattle.names.specs.Names.{sameBytes}
 use Rattle.names.proofs.Same.{same-eq, eq-same}
 use Rattle.record.specs.declared.Sixteen.{Sixteen}
 use Rattle.record.specs.{Record.fourOf, Record.sixteenOf, Says.sixteenBytes}
-use Rattle.steps.proofs.Tests.{both}
 
 -- the numbers of bytes that write them, and the bytes of numbers that are read
 pub sixteen-back : (z : Sixteen) → z .high < 256 ^ 8 → z .low < 256 ^ 8 → sixteenOf (sixteenBytes z) ≡ z

@@ -16,10 +16,6 @@ pub set-is : (b : Bool) → not b ≡ false → b ≡ true
 set-is true e = refl
 set-is false e = sym e
 
-pub both : (a b : Bool) → a && b ≡ true → (a ≡ true) × (b ≡ true)
-both true b e = (refl, e)
-both false b e = true-false (sym e)
-
 -- neither is false, or one is
 pub both-set : (a b : Bool) → not a || not b ≡ false → (a ≡ true) × (b ≡ true)
 both-set true true e = (refl, refl)

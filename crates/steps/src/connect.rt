@@ -14,7 +14,6 @@ use record::Body;
 use record::Con;
 use record::Message;
 use writer::Written;
-use writer::put;
 ghost use mathlib.Core.{Path._≡_, List.List, List.[]};
 ghost use mathlib.Core.Bool.{true, false, not, _||_};
 ghost use Prim.Native.Nat.{ℕ};
@@ -42,6 +41,7 @@ pub fn in_waiting(d: &mut [u8], m: Message, sc_eui: u64, uuid: &[u8], room: &mut
         Body::AttPrp(_) => refused(refusals::STATE),
         Body::DetPrp(_) => refused(refusals::STATE),
         Body::UlData(_) => refused(refusals::STATE),
+        Body::DlDataQue(_) => refused(refusals::STATE),
         Body::Bare(_) => refused(refusals::STATE),
     }
 }
@@ -100,9 +100,8 @@ fn resume(d: &mut [u8], sc_eui: u64, room: &mut [u8]) -> Answer
     ensures { λ r. ⌜ _≡_ {A = Called} (called r (now (d .exit)) (now (room .exit)))
         (calledBy (now (d .entry)) (now (room .entry)) (Outcome.replies isResumed (resumed (sessionAt (now (d .entry)))) (conRspWith «sc_eui» true (sixteenOf (sessionAt (now (d .entry)) .snScUuid))) [])) ⌝ }
 {
-    let none = [0u8; 0];
     let own = sixteen_at(d, lies::SC_UUID);
-    let w = put(con_rsp(sc_eui, true, own), &none, room);
+    let w = writer::reply(con_rsp(sc_eui, true, own), room);
     match w {
         Written::Refused(k) => refused(k),
         Written::Whole(n) => {
@@ -117,9 +116,8 @@ fn anew(d: &mut [u8], x: Con, sc_eui: u64, uuid: &[u8], room: &mut [u8]) -> Answ
     ensures { λ r. ⌜ _≡_ {A = Called} (called r (now (d .exit)) (now (room .exit)))
         (calledBy (now (d .entry)) (now (room .entry)) (Outcome.replies isBegun (begun (hostOf «sc_eui» (now (uuid .entry)) []) x) (conRspWith «sc_eui» false (sixteenOf (now (uuid .entry)))) [])) ⌝ }
 {
-    let none = [0u8; 0];
     let own = sixteen_at(uuid, 0);
-    let w = put(con_rsp(sc_eui, false, own), &none, room);
+    let w = writer::reply(con_rsp(sc_eui, false, own), room);
     match w {
         Written::Refused(k) => refused(k),
         Written::Whole(n) => {

@@ -19,7 +19,7 @@ ghost use Rattle.steps.specs.{code.Lies.Lies, code.Lies.startedBy, code.
 // Below it there is none to issue.
 const LEAST_ID: i64 = -0x8000_0000_0000_0000;
 
-// The centre starts ping, status, attPrp, detPrp.
+// The centre starts ping, status, attPrp, detPrp, dlDataQue.
 pub fn begins(d: &mut [u8], b: Body, lent: &[u8], room: &mut [u8]) -> Answer
     requires { ⌜ Lies (now d) ⌝ }
     ensures { λ r. ⌜ _≡_ {A = Called} (called r (now (d .exit)) (now (room .exit)))
@@ -30,6 +30,7 @@ pub fn begins(d: &mut [u8], b: Body, lent: &[u8], room: &mut [u8]) -> Answer
         & (command != numbers::STATUS)
         & (command != numbers::ATT_PRP)
         & (command != numbers::DET_PRP)
+        & (command != numbers::DL_DATA_QUE)
     {
         return refused(refusals::STATE);
     }

@@ -12,7 +12,6 @@ use crate::stored;
 use names::numbers;
 use octets::refusals;
 use writer::Written;
-use writer::put;
 ghost use mathlib.Core.{Path._≡_, Bool.true, List.List};
 ghost use Prim.Native.Nat.{ℕ};
 ghost use Rattle.record.specs.Says.{isBare};
@@ -37,6 +36,13 @@ pub fn in_open(d: &mut [u8], sign: u32, command: u8, id: i64, room: &mut [u8]) -
         numbers::STATUS_RSP => answers(d, numbers::STATUS, numbers::STATUS_CMP, id, room),
         numbers::ATT_PRP_RSP => answers(d, numbers::ATT_PRP, numbers::ATT_PRP_CMP, id, room),
         numbers::DET_PRP_RSP => answers(d, numbers::DET_PRP, numbers::DET_PRP_CMP, id, room),
+        numbers::DL_DATA_QUE_RSP => answers(
+            d,
+            numbers::DL_DATA_QUE,
+            numbers::DL_DATA_QUE_CMP,
+            id,
+            room,
+        ),
         _ => refused(refusals::STATE),
     }
 }
@@ -63,8 +69,7 @@ fn start_at(d: &mut [u8], start: u8, answer: u8, sign: u32, id: i64, room: &mut 
     if i == lies::PLACES {
         return refused(refusals::SIXTEEN_OPEN);
     }
-    let none = [0u8; 0];
-    let w = put(rsp(sign, answer, id), &none, room);
+    let w = writer::reply(rsp(sign, answer, id), room);
     match w {
         Written::Refused(k) => refused(k),
         Written::Whole(n) => {
@@ -98,8 +103,7 @@ fn answers(d: &mut [u8], start: u8, complete: u8, id: i64, room: &mut [u8]) -> A
     if i == lies::PLACES {
         return refused(refusals::STATE);
     }
-    let none = [0u8; 0];
-    let w = put(bare(complete, id), &none, room);
+    let w = writer::reply(bare(complete, id), room);
     match w {
         Written::Refused(k) => refused(k),
         Written::Whole(n) => {

@@ -9,11 +9,11 @@ use lib.{IntN.pos, ListN.length}
 use borrow.Author.Tests.{lt-ltb}
 use Rattle.octets.specs.Choice.{either}
 use Rattle.element.specs.Tree.{Pairs, bytesOf, bytesOfAll, bytesOfPairs, partCount, pairCount}
-use Rattle.forms.specs.Shortest.{wholeTree, textTree, textHead, mapTree, mapHead, arrayHead, arrayTree, octetsTree, numberTrees, versionText}
+use Rattle.forms.specs.Shortest.{wholeTree, textTree, textHead, mapTree, mapHead, arrayHead, arrayTree, numbersTree, numberTrees, pieceTrees, versionText}
 use Rattle.forms.specs.Shortest.{headBytes}
-use Rattle.forms.specs.code.Put.{joined, wholeParts, realParts, markParts, textParts, numberParts, octetsParts, positionParts, versionParts}
+use Rattle.forms.specs.code.Put.{joined, wholeParts, realParts, markParts, textParts, numberParts, numbersParts, pieceParts, piecesParts, positionParts, versionParts}
 use Rattle.forms.proofs.Putting.{joined-join}
-use Rattle.shortest.proofs.Many.{numbers-parts}
+use Rattle.shortest.proofs.{Many.numbers-parts, Pieces.pieces-parts}
 use Rattle.names.specs.Names.{commands, nameAt}
 use Rattle.field.specs.Kind.{Kind, Value}
 use Rattle.message.specs.Fields.{Field, headed, fieldsOf}
@@ -31,7 +31,9 @@ valueParts k (Value.number z) = wholeParts z
 valueParts k (Value.figure x) = realParts x
 valueParts k (Value.mark b) = markParts b
 valueParts k (Value.position x y z) = positionParts x y z
-valueParts k (Value.string d) = either (asArray k) (λ _. octetsParts d) (λ _. textParts d)
+valueParts k (Value.string d) = either (asArray k) (λ _. numbersParts d) (λ _. textParts d)
+valueParts k (Value.counts ns) = numbersParts ns
+valueParts k (Value.strings ds) = piecesParts ds
 valueParts k (Value.release a b c) = versionParts a b c
 
 numbers-bytes : (d : List ℕ) → joined (numberParts d) ≡ bytesOfAll (numberTrees d)
@@ -43,9 +45,15 @@ text-bytes : (d : List ℕ) → joined (textParts d) ≡ bytesOf (textTree d)
 unfolding joined bytesOf textTree
 text-bytes d = ap (λ (l : List ℕ). headBytes (textHead (length d)) ++ l) (append-nil d)
 
-octets-bytes : (d : List ℕ) → joined (octetsParts d) ≡ bytesOf (octetsTree d)
+octets-bytes : (d : List ℕ) → joined (numbersParts d) ≡ bytesOf (numbersTree d)
 unfolding joined bytesOf arrayTree
 octets-bytes d = ap₂ (λ (n : ℕ) (l : List ℕ). headBytes (arrayHead n) ++ l) (sym (numbers-parts d)) (numbers-bytes d)
+
+pieces-bytes : (ds : List (List ℕ)) → joined (pieceParts ds) ≡ bytesOfAll (pieceTrees ds)
+unfolding joined pieceParts pieceTrees bytesOf
+pieces-bytes [] = refl
+pieces-bytes (d ∷ ds) =
+    joined-join (numbersParts d) (pieceParts ds) ∙ ap₂ (λ (a b : List ℕ). a ++ b) (octets-bytes d) (pieces-bytes ds)
 
 value-bytes : (k : Kind) (v : Value) → joined (valueParts k v) ≡ bytesOf (treeOf k v)
 unfolding joined treeOf bytesOf arrayTree partCount
@@ -56,9 +64,11 @@ value-bytes k (Value.mark b) = append-nil _
 value-bytes k (Value.position x y z) = refl
 value-bytes k (Value.string d) = go (asArray k)
   where
-    go : (b : Bool) → joined (either b (λ _. octetsParts d) (λ _. textParts d)) ≡ bytesOf (either b (λ _. octetsTree d) (λ _. textTree d))
+    go : (b : Bool) → joined (either b (λ _. numbersParts d) (λ _. textParts d)) ≡ bytesOf (either b (λ _. numbersTree d) (λ _. textTree d))
     go true = octets-bytes d
     go false = text-bytes d
+value-bytes k (Value.counts ns) = octets-bytes ns
+value-bytes k (Value.strings ds) = ap₂ (λ (n : ℕ) (l : List ℕ). headBytes (arrayHead n) ++ l) (sym (pieces-parts ds)) (pieces-bytes ds)
 value-bytes k (Value.release a b c) = text-bytes (versionText a b c)
 
 -- the parts of the fields of a list

@@ -1,4 +1,4 @@
--- A payload in its frame: it stands behind the frame's head, 1,012 bytes hold both, and with the head in front it is the frame at the start of the
+-- A payload in its frame: it stands behind the frame's head, a room as long as the frame holds both, and with the head in front it is the frame at the start of the
 -- room. Each law in the shape of a need of the code. Assumes nothing.
 use mathlib.Core.Path.{_≡_, refl, sym, ap, ap₂, _∙_}
 use mathlib.Core.Bool.{true}
@@ -15,13 +15,13 @@ use Rattle.frame.specs.Frame.{identifier}
 use Rattle.forms.specs.code.Put.{Put, put, putParts, joined}
 use Rattle.forms.proofs.Putting.{fits-parts, part-in}
 use Rattle.saying.specs.Written.{frameOf}
-use Rattle.record.specs.{Fits.faultIn, Fits.fits, Says.isNamed, Written.payloadFor, Written.frameFor}
+use Rattle.record.specs.{Fits.faultIn, Fits.fits, Says.isNamed, Written.payloadFor, Written.frameFor, code.Most.frameMost}
 use Rattle.record.specs.declared.Message.{Message}
-use Rattle.record.proofs.Payloads.{payload-short}
-use Rattle.writer.specs.code.Parts.{bodyParts, withHead}
+use Rattle.record.proofs.Payloads.{frame-most, payload-most}
+use Rattle.writer.specs.code.Parts.{hasData, bodyParts, withHead}
 use Rattle.writer.specs.Write.{Sent, sent, framed, written}
 use Rattle.writer.specs.declared.Written.{Written, the-variants.Whole, the-variants.Refused}
-use Rattle.writer.proofs.Payloads.{payload-bytes, fits-named}
+use Rattle.writer.proofs.Payloads.{payload-bytes, fits-named, fits-data}
 
 -- what is put in front of bytes that stand there
 ahead : (old h d : List ℕ) → length h + length d ≤ length old → putAt (putAt old (length h) d) 0 h ≡ putAt old 0 (h ++ d)
@@ -85,21 +85,35 @@ module _ (made room : List ℕ) where
 
 pub ruleset deliveries = (delivered, too-short)
 
-pub enough : 1012 ≤ length (replicate {A = ℕ} 1012 0)
-enough = rw length-replicate (omega arith)
+-- a record's frame has place in so many bytes, and a reply's in fewer
+module _ (m : Message) (d room : List ℕ) (f : true ≡ fits m d) where
+  frame-is : length (frameFor m d) ≡ 12 + length (payloadFor m d)
+  frame-is = frame-length (payloadFor m d)
+
+  pub has-place : 1909 ≤ length room → length (frameFor m d) ≤ length room
+  has-place l = omega (arith, frame-is, payload-most m d (sym f), frame-most (m .body))
+
+  pub has-place-brief : frameMost (m .body) ≤ 145 → 145 ≤ length room → length (frameFor m d) ≤ length room
+  has-place-brief b l = omega (arith, frame-is, payload-most m d (sym f))
+
+pub many : (n : ℕ) → n ≤ length (replicate {A = ℕ} n 0)
+many n = rw length-replicate (omega arith)
 
 module _ (m : Message) (d : List ℕ) (f : true ≡ fits m d) where
-  short : length (payloadFor m d) ≤ 1000
-  short = payload-short m d (sym f)
-
   pub named : true ≡ isNamed (m .body)
   named = is-true (isNamed (m .body)) (fits-named m d (sym f))
 
-  module _ (old room : List ℕ) (n : ℕ) (l : 1012 ≤ length old) (e : put room n ≡ putParts (bodyParts (m .«op_id») (m .body) d) (put old 12)) where
+  pub data-there : true ≡ hasData (m .body) d
+  data-there = is-true (hasData (m .body) d) (fits-data m d (sym f))
+
+  module _ (old room : List ℕ) (n : ℕ) (l : length (frameFor m d) ≤ length old) (e : put room n ≡ putParts (bodyParts (m .«op_id») (m .body) d) (put old 12)) where
+    place : 12 + length (payloadFor m d) ≤ length old
+    place = omega (arith, l, frame-length (payloadFor m d))
+
     all-put : put room n ≡ put (putAt old 12 (payloadFor m d)) (12 + length (payloadFor m d))
     all-put =
         let b = payload-bytes m d (fits-named m d (sym f)) in
-        let s : 12 + length (joined (bodyParts (m .«op_id») (m .body) d)) ≤ length old = rw b (omega (arith, short)) in
+        let s : 12 + length (joined (bodyParts (m .«op_id») (m .body) d)) ≤ length old = rw b place in
         e ∙ fits-parts (bodyParts (m .«op_id») (m .body) d) old 12 s ∙ ap (λ (p : List ℕ). put (putAt old 12 p) (12 + length p)) b
 
     size : n ≡ 12 + length (payloadFor m d)
@@ -112,15 +126,15 @@ module _ (m : Message) (d : List ℕ) (f : true ≡ fits m d) where
     behind-head = omega (arith, size)
 
     frame-put : (after : List ℕ) → after ≡ withHead room n → after ≡ putAt old 0 (frameFor m d)
-    frame-put after g = head-before old room after (payloadFor m d) n (omega (arith, short)) (ap (λ (o : Put). o .room) all-put) size g
+    frame-put after g = head-before old room after (payloadFor m d) n place (ap (λ (o : Put). o .room) all-put) size g
 
     pub put-whole : (after : List ℕ) → after ≡ withHead room n → sent (Whole n) after ≡ framed (frameFor m d) old
-    put-whole after g = framed-whole (frameFor m d) old after n long (omega (arith, long, size, short)) (frame-put after g)
+    put-whole after g = framed-whole (frameFor m d) old after n long l (frame-put after g)
 
     -- made elsewhere, and then put into its place
     module _ (made : List ℕ) (g : made ≡ withHead room n) where
       pub in-made : n ≤ length made
-      in-made = omega (arith, size, short, ap length (frame-put made g) ∙ length-put old 0 (frameFor m d))
+      in-made = omega (arith, size, place, ap length (frame-put made g) ∙ length-put old 0 (frameFor m d))
 
       pub copied : n ≡ length (take n made)
       copied = sym (length-take-le n made in-made)
@@ -129,7 +143,7 @@ module _ (m : Message) (d : List ℕ) (f : true ≡ fits m d) where
       made-there =
           let k : n ≡ 0 + length (frameFor m d) = omega (arith, long) in
           ap₂ (λ (i : ℕ) (s : List ℕ). take i s) k (frame-put made g)
-          ∙ put-upto old 0 (frameFor m d) (omega (arith, long, size, short))
+          ∙ put-upto old 0 (frameFor m d) (omega (arith, l))
 
       pub put-made : (room after : List ℕ) (r : Written) → sent r after ≡ framed (take n made) room → sent r after ≡ framed (frameFor m d) room
       put-made room after r e = rw made-there at e
@@ -149,6 +163,6 @@ module _ (m : Message) (d : List ℕ) (r : ℕ) (e : r ≡ faultIn m d) where
 
 pub ruleset writes = (fitting, written-15, written-put)
 
-pub ruleset frames = (named, behind-head, put-whole)
+pub ruleset frames = (has-place, named, data-there, behind-head, put-whole)
 
-pub ruleset copies = (enough, named, behind-head, in-made, copied, put-made)
+pub ruleset copies = (many, has-place, has-place-brief, named, data-there, behind-head, in-made, copied, put-made)

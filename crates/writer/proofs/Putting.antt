@@ -13,7 +13,7 @@ use mir.ValLaws.{toZ-ofZ}
 use borrow.Author.Tests.{ne-eqb}
 use Rattle.octets.specs.{Bytes.bigBytes, Bytes.putAt, code.Put.putNumber}
 use Rattle.octets.proofs.{Digits.length-big, Ranges.true-false, Writing.put-in, Writing.put-then}
-use Rattle.forms.specs.code.Put.{Put, putParts, mapParts, wholeParts, textParts, octetsParts}
+use Rattle.forms.specs.code.Put.{Put, putParts, mapParts, wholeParts, textParts, numbersParts}
 use Rattle.forms.proofs.Putting.{parts-then}
 use Rattle.record.specs.Says.{sixteenBytes}
 use Rattle.record.specs.declared.Sixteen.{Sixteen}
@@ -127,14 +127,14 @@ unfolding sixteenBytes
 sixteen-long x = omega (arith, length-append (bigBytes 8 (x .high)) (bigBytes 8 (x .low)), length-big 8 (x .high), length-big 8 (x .low))
 
 module _ (k : List ℕ) (a b : Put) where
-  pub four-put : (s t : List ℕ) (x : ℕ) → length s ≡ 4 → t ≡ putNumber s 0 4 (bigBytes 4 x) → b ≡ putParts (pairPart true k (octetsParts (take 4 t))) a → b ≡ putParts (pairPart true k (octetsParts (bigBytes 4 x))) a
+  pub four-put : (s t : List ℕ) (x : ℕ) → length s ≡ 4 → t ≡ putNumber s 0 4 (bigBytes 4 x) → b ≡ putParts (pairPart true k (numbersParts (take 4 t))) a → b ≡ putParts (pairPart true k (numbersParts (bigBytes 4 x))) a
   four-put s t x l e f =
       let w = bigBytes 4 x in
       let i : t ≡ w = e ∙ put-whole s w (omega (arith, length-big 4 x)) in
       let j : take 4 w ≡ w = take-all 4 w (omega (arith, length-big 4 x)) in
       rw (i, j) at f
 
-  pub sixteen-put : (t : List ℕ) (x : Sixteen) → t ≡ sixteenBytes x → b ≡ putParts (pairPart true k (octetsParts (take 16 t))) a → b ≡ putParts (pairPart true k (octetsParts (sixteenBytes x))) a
+  pub sixteen-put : (t : List ℕ) (x : Sixteen) → t ≡ sixteenBytes x → b ≡ putParts (pairPart true k (numbersParts (take 16 t))) a → b ≡ putParts (pairPart true k (numbersParts (sixteenBytes x))) a
   sixteen-put t x e f =
       let j : take 16 (sixteenBytes x) ≡ sixteenBytes x = take-all 16 (sixteenBytes x) (omega (arith, sixteen-long x)) in
       rw (e, j) at f

@@ -1,9 +1,9 @@
 // The head of a payload: how many pairs it has, and the first two of them, command and opId.
 use names::numbers;
-ghost use mathlib.Core.{Path._≡_, List.[], List._∷_, List._++_};
-ghost use Prim.Native.Nat.{_≤_, _<_};
+ghost use mathlib.Core.{Path._≡_, Bool.true, List.[], List._∷_, List._++_};
+ghost use Prim.Native.Nat.{_+_, _≤_, _<_};
 ghost use Rattle.forms.specs.code.Put.{Put, put, putParts, mapParts, wholeParts};
-ghost use Rattle.record.specs.declared.Body.{Body};
+ghost use Rattle.record.specs.{Says.isBare, declared.Body.Body};
 ghost use Rattle.writer.specs.code.Parts.{oneIf, pairsPresent, bodyParts};
 
 fn one(b: bool) -> u8
@@ -17,6 +17,7 @@ fn one(b: bool) -> u8
 pub fn count(always: u8, a: bool, b: bool, c: bool, d: bool, e: bool) -> u8
     requires { ⌜ always < 16 ⌝ }
     ensures { λ r. ⌜ r ≡ pairsPresent always a b c d e ⌝ }
+    ensures few { λ r. ⌜ r ≤ always + 5 ⌝ }
 {
     always + one(a) + one(b) + one(c) + one(d) + one(e)
 }
@@ -35,7 +36,7 @@ const BARE_PAIRS: u8 = 2;
 
 // A command that has no other fields.
 pub fn bare(room: &mut [u8], at: usize, id: i64, c: u8) -> usize
-    requires { ⌜ (8 ≤ c) × (c < 21) ⌝ }
+    requires { ⌜ true ≡ isBare c ⌝ }
     ensures { λ r. ⌜ _≡_ {A = Put} (put (now (room .exit)) r) (putParts (bodyParts id (Body.Bare c) []) (put (now (room .entry)) at)) ⌝ }
 {
     match c {
@@ -87,11 +88,25 @@ pub fn bare(room: &mut [u8], at: usize, id: i64, c: u8) -> usize
             b"\xA7command\xA9ulDataRsp\xA4opId",
             id,
         ),
-        _ => title(
+        numbers::UL_DATA_CMP => title(
             room,
             at,
             BARE_PAIRS,
             b"\xA7command\xA9ulDataCmp\xA4opId",
+            id,
+        ),
+        numbers::DL_DATA_QUE_RSP => title(
+            room,
+            at,
+            BARE_PAIRS,
+            b"\xA7command\xACdlDataQueRsp\xA4opId",
+            id,
+        ),
+        _ => title(
+            room,
+            at,
+            BARE_PAIRS,
+            b"\xA7command\xACdlDataQueCmp\xA4opId",
             id,
         ),
     }

@@ -1,5 +1,6 @@
 // Writing a record as a whole frame.
 mod connect;
+mod downlink;
 mod head;
 mod pair;
 mod payload;
@@ -10,15 +11,18 @@ mod status;
 use frame::HEAD;
 use octets::refusals;
 use payload::payload;
+use payload::reply_payload;
 use record::Message;
-ghost use mathlib.Core.{Path._≡_, Bool.true};
+ghost use mathlib.Core.{Path._≡_, Bool.true, List.[]};
 ghost use Prim.Native.Nat.{_≤_};
-ghost use Rattle.record.specs.{Fits.fits, Written.frameFor};
+ghost use Rattle.record.specs.{Fits.fits, Written.frameFor, code.Most.frameMost};
 ghost use Rattle.writer.specs.code.Parts.{withHead};
 ghost use Rattle.writer.specs.Write.{Sent, sent, framed, written};
 
-// So many bytes have place for any frame: 12 and a payload of at most 1,000.
-pub const MOST_FRAME: usize = 1012;
+// So many bytes have place for any frame, and for any that a session replies with.
+pub const MOST_FRAME: usize = 1909;
+
+pub const MOST_REPLY: usize = 145;
 
 // A frame and its length, or document 01's refusal 15 or 20.
 pub enum Written {
@@ -55,10 +59,21 @@ fn put_short(m: Message, d: &[u8], room: &mut [u8]) -> Written
     requires { ⌜ true ≡ fits m (now d) ⌝ }
     ensures { λ r. ⌜ _≡_ {A = Sent} (sent r (now (room .exit))) (framed (frameFor m (now (d .entry))) (now (room .entry))) ⌝ }
 {
-    let mut whole = [0u8; MOST_FRAME];
-    let end = payload(&mut whole, HEAD, m, d);
-    frame(&mut whole, end);
-    deliver(&whole[..end], room)
+    let mut made = [0u8; MOST_FRAME];
+    let end = payload(&mut made, HEAD, m, d);
+    frame(&mut made, end);
+    deliver(&made[..end], room)
+}
+
+// The same of a record that a session replies with. Its frame is short, so it is made elsewhere in every room.
+pub fn reply(m: Message, room: &mut [u8]) -> Written
+    requires { ⌜ (true ≡ fits m []) × (frameMost (m .body) ≤ 145) ⌝ }
+    ensures { λ r. ⌜ _≡_ {A = Sent} (sent r (now (room .exit))) (framed (frameFor m []) (now (room .entry))) ⌝ }
+{
+    let mut made = [0u8; MOST_REPLY];
+    let end = reply_payload(&mut made, HEAD, m);
+    frame(&mut made, end);
+    deliver(&made[..end], room)
 }
 
 // A frame that is made, where it has place.

@@ -1,9 +1,10 @@
 // A key and its value. The key is lent with its length in front, as it is written; where the field is not there nothing is written.
 use record::Sixteen;
 ghost use mathlib.Core.{Path._≡_, Bool.true, Bool.not};
+ghost use Prim.Native.Nat.{_+_, _≤_};
 ghost use lib.{Dec.eqb, IntN.pos, ListN.length, ListN.take};
-ghost use Rattle.octets.specs.Bytes.{bigBytes};
-ghost use Rattle.forms.specs.code.Put.{Put, put, putParts, wholeParts, realParts, markParts, textParts, octetsParts};
+ghost use Rattle.octets.specs.{Bytes.bigBytes, Pieces.countersLent, Pieces.lengthsLent, Pieces.piecesLent, Pieces.sumOf};
+ghost use Rattle.forms.specs.code.Put.{Put, put, putParts, wholeParts, realParts, markParts, textParts, numbersParts, piecesParts};
 ghost use Rattle.record.specs.Says.{sixteenBytes};
 ghost use Rattle.writer.specs.code.Parts.{text, pairPart, idPart, positionPart, versionPart};
 
@@ -41,6 +42,16 @@ pub fn mark(room: &mut [u8], at: usize, key: &[u8], x: bool) -> usize
     forms::put_mark(room, next, x)
 }
 
+pub fn maybe_mark(room: &mut [u8], at: usize, key: &[u8], here: bool, x: bool) -> usize
+    ensures { λ r. ⌜ _≡_ {A = Put} (put (now (room .exit)) r) (putParts (pairPart here (now (key .entry)) (markParts x)) (put (now (room .entry)) at)) ⌝ }
+{
+    if !here {
+        return at;
+    }
+    let next = forms::put_run(room, at, key);
+    forms::put_mark(room, next, x)
+}
+
 pub fn real(room: &mut [u8], at: usize, here: bool, key: &[u8], x: f64) -> usize
     ensures { λ r. ⌜ _≡_ {A = Put} (put (now (room .exit)) r) (putParts (pairPart here (now (key .entry)) (realParts x)) (put (now (room .entry)) at)) ⌝ }
 {
@@ -53,10 +64,31 @@ pub fn real(room: &mut [u8], at: usize, here: bool, key: &[u8], x: f64) -> usize
 
 // The first n bytes of d, as an array of numbers.
 pub fn octets(room: &mut [u8], at: usize, key: &[u8], d: &[u8], n: u8) -> usize
-    ensures { λ r. ⌜ _≡_ {A = Put} (put (now (room .exit)) r) (putParts (pairPart true (now (key .entry)) (octetsParts (take n (now (d .entry))))) (put (now (room .entry)) at)) ⌝ }
+    ensures { λ r. ⌜ _≡_ {A = Put} (put (now (room .exit)) r) (putParts (pairPart true (now (key .entry)) (numbersParts (take n (now (d .entry))))) (put (now (room .entry)) at)) ⌝ }
 {
     let next = forms::put_run(room, at, key);
     forms::put_octets(room, next, d, n)
+}
+
+// The first n of a downlink's counters in d, as an array of numbers.
+pub fn counters(room: &mut [u8], at: usize, here: bool, key: &[u8], d: &[u8], n: u8) -> usize
+    requires { ⌜ (n ≤ 16) × (64 ≤ length (now d)) ⌝ }
+    ensures { λ r. ⌜ _≡_ {A = Put} (put (now (room .exit)) r) (putParts (pairPart here (now (key .entry)) (numbersParts (countersLent n (now (d .entry))))) (put (now (room .entry)) at)) ⌝ }
+{
+    if !here {
+        return at;
+    }
+    let next = forms::put_run(room, at, key);
+    forms::put_counters(room, next, d, n)
+}
+
+// The first n of a downlink's data entries in d, as an array of arrays of numbers.
+pub fn pieces(room: &mut [u8], at: usize, key: &[u8], d: &[u8], n: u8) -> usize
+    requires { ⌜ (n ≤ 16) × (80 + sumOf (lengthsLent n (now d)) ≤ length (now d)) ⌝ }
+    ensures { λ r. ⌜ _≡_ {A = Put} (put (now (room .exit)) r) (putParts (pairPart true (now (key .entry)) (piecesParts (piecesLent n (now (d .entry))))) (put (now (room .entry)) at)) ⌝ }
+{
+    let next = forms::put_run(room, at, key);
+    forms::put_pieces(room, next, d, n)
 }
 
 // The first n bytes of d, as a text.
@@ -94,7 +126,7 @@ pub fn version(room: &mut [u8], at: usize, key: &[u8], x: message::MaybeVersion)
 }
 
 pub fn four(room: &mut [u8], at: usize, key: &[u8], x: u32) -> usize
-    ensures { λ r. ⌜ _≡_ {A = Put} (put (now (room .exit)) r) (putParts (pairPart true (now (key .entry)) (octetsParts (bigBytes 4 x))) (put (now (room .entry)) at)) ⌝ }
+    ensures { λ r. ⌜ _≡_ {A = Put} (put (now (room .exit)) r) (putParts (pairPart true (now (key .entry)) (numbersParts (bigBytes 4 x))) (put (now (room .entry)) at)) ⌝ }
 {
     let mut t = [0u8; 4];
     octets::put_big(&mut t, 0, 4, x as u64);
@@ -111,7 +143,7 @@ fn spread(t: &mut [u8], x: Sixteen)
 }
 
 pub fn sixteen(room: &mut [u8], at: usize, key: &[u8], x: Sixteen) -> usize
-    ensures { λ r. ⌜ _≡_ {A = Put} (put (now (room .exit)) r) (putParts (pairPart true (now (key .entry)) (octetsParts (sixteenBytes x))) (put (now (room .entry)) at)) ⌝ }
+    ensures { λ r. ⌜ _≡_ {A = Put} (put (now (room .exit)) r) (putParts (pairPart true (now (key .entry)) (numbersParts (sixteenBytes x))) (put (now (room .entry)) at)) ⌝ }
 {
     let mut t = [0u8; 16];
     spread(&mut t, x);

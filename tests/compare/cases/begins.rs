@@ -5,7 +5,7 @@ use super::writes::{room, ROOM};
 use super::{images, sessions, values};
 use crate::reference::calls;
 use crate::reference::image::Image;
-use crate::reference::session::State;
+use crate::reference::session::{State, CENTRE_STARTS};
 use crate::stream::Stream;
 
 pub fn one(stream: &mut Stream, random: &mut Random) {
@@ -23,7 +23,7 @@ pub fn one(stream: &mut Stream, random: &mut Random) {
 
 /// A start of the centre's, mostly valid.
 pub fn message(random: &mut Random) -> Image {
-    let name = random.pick(&["ping", "status", "attPrp", "detPrp"]);
+    let name = random.pick(&CENTRE_STARTS);
     let record = values::of(random, name);
     let mut message = images::of(random, &record);
     match random.below(24) {

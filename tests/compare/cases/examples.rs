@@ -1,5 +1,7 @@
-//! Document 01's examples, with the answers that it states.
+//! Document 01's examples, with the answers that it states; and for document 02, which states none, some that were worked out by
+//! hand.
 
+use crate::reference::calls;
 use crate::reference::fields::Value;
 use crate::reference::frame::{framed, IDENTIFIER};
 use crate::reference::image::{self, Image};
@@ -36,6 +38,9 @@ pub fn all(stream: &mut Stream) {
     writings(stream);
     longest(stream);
     texts(stream);
+    downlinks(stream);
+    prios(stream);
+    longest_downlink(stream);
 }
 
 fn readings(stream: &mut Stream) {
@@ -78,7 +83,7 @@ fn reals(stream: &mut Stream) {
     for (rssi, bits) in examples {
         let payload = [before, rssi, b"\xA4sign\x94\0\0\0\0"].concat();
         let mut lent = filled(0xEE);
-        crate::reference::calls::read(&payload, &mut lent);
+        calls::read(&payload, &mut lent);
         bits.iter().for_each(|bits| assert_eq!(lent.message[48..56], bits.to_le_bytes()));
         assert_eq!(stream.read(&payload, &filled(0xEE)), if bits.is_some() { value(21) } else { refused(15, 0) });
     }
@@ -121,7 +126,7 @@ fn writings(stream: &mut Stream) {
     assert_eq!(stream.write(&ping_rsp, &[0xEE; 60]), value(35));
 }
 
-/// The longest message of all takes 714 bytes framed.
+/// The longest message that a station sends takes 714 bytes framed.
 fn longest(stream: &mut Stream) {
     let whole = |number: u64| Value::Whole(number.into());
     let longest = Record::new("ulData", i64::MIN)
@@ -141,6 +146,102 @@ fn longest(stream: &mut Stream) {
     let image = image::of_record(&longest);
     assert_eq!(stream.write(&image, &[0xEE; 713]), refused(20, 0));
     assert_eq!(stream.write(&image, &[0xEE; 714]), value(714));
+}
+
+/// A dlDataQue with no optional field and one with all, as they are kept, each byte of it; and written again as the same bytes.
+fn downlinks(stream: &mut Stream) {
+    let least =
+        b"\x86\xA7command\xA9dlDataQue\xA4opId\xFF\xA5epEui\x07\xA5queId\x02\xA9cntDepend\xC2\xA8userData\x91\x92\x01\xCC\xFF";
+    let mut kept = filled(0);
+    kept.message[..8].fill(0xFF);
+    [(8, 21), (16, 7), (24, 2), (40, 1)].iter().for_each(|(at, byte)| kept.message[*at] = *byte);
+    [(64, 2), (80, 1), (81, 255)].iter().for_each(|(at, byte)| kept.data[*at] = *byte);
+    downlink(stream, least, 16, &kept);
+
+    let most = [
+        &b"\x8D\xA7command\xA9dlDataQue\xA4opId\xFE\xA5epEui\xCF\x70\xB3\xD5\x67\x70\0\0\x01\xA5queId\xCD\x01\0\xA9cntDepend\xC3"
+            [..],
+        b"\xA9packetCnt\x92\x05\xCE\xFF\xFF\xFF\xFE\xA8userData\x92\x90\x91\0\xA6format\x09\xA4prio\xCB\x80\0\0\0\0\0\0\0",
+        b"\xABresponseExp\xC2\xACresponsePrio\xC3\xA9dlWindReq\xC2\xA7expOnly\xC3",
+    ];
+    let mut kept = filled(0);
+    kept.message[..8].copy_from_slice(&(-2i64).to_le_bytes());
+    kept.message[8] = 21;
+    kept.message[16..24].copy_from_slice(&[0x01, 0, 0, 0x70, 0x67, 0xD5, 0xB3, 0x70]);
+    kept.message[24..32].copy_from_slice(&[0, 1, 0, 0, 0, 0, 0, 0]);
+    kept.message[32..40].copy_from_slice(&[0, 0, 0, 0, 0, 0, 0, 0x80]);
+    kept.message[40..51].copy_from_slice(&[2, 9, 1, 1, 0, 1, 1, 1, 0, 1, 1]);
+    kept.data[..8].copy_from_slice(&[5, 0, 0, 0, 0xFE, 0xFF, 0xFF, 0xFF]);
+    kept.data[64..66].copy_from_slice(&[0, 1]);
+    downlink(stream, &most.concat(), 32, &kept);
+}
+
+fn downlink(stream: &mut Stream, payload: &[u8], elements: u64, kept: &Image) {
+    let mut lent = filled(0xEE);
+    let mut expected = kept.clone();
+    let bytes: usize = kept.data[64..80].iter().map(|&n| n as usize).sum();
+    expected.data[80 + bytes..].fill(0xEE);
+    assert_eq!(calls::read(payload, &mut lent), value(elements));
+    assert_eq!(lent, expected);
+    assert_eq!(stream.read(payload, &filled(0xEE)), value(elements));
+    let mut room = vec![0; payload.len() + 12];
+    calls::write(kept, &mut room);
+    assert_eq!(room, framed(payload));
+    assert_eq!(stream.write(kept, &room), value(room.len() as u64));
+}
+
+/// "prio is a finite real that fits single precision exactly", "a real field too: an integer there must lie within ±2^53".
+fn prios(stream: &mut Stream) {
+    let examples: [(&[u8], Option<u64>); 18] = [
+        (b"\0", Some(0)),
+        (b"\xCA\x80\0\0\0", Some(1 << 63)),
+        (b"\xCB\x80\0\0\0\0\0\0\0", Some(1 << 63)),
+        (b"\xCA\0\0\0\x01", Some(0x36A0 << 48)),
+        (b"\xCB\x36\xA0\0\0\0\0\0\0", Some(0x36A0 << 48)),
+        (b"\xCB\x36\x90\0\0\0\0\0\0", None),
+        (b"\xCB\0\0\0\0\0\0\0\x01", None),
+        (b"\xCE\x01\0\0\0", Some(0x4170 << 48)),
+        (b"\xCE\x01\0\0\x01", None),
+        (b"\xCF\0\x20\0\0\0\0\0\0", Some(0x4340 << 48)),
+        (b"\xCF\0\x1F\xFF\xFF\xFF\xFF\xFF\xFF", None),
+        (b"\xCF\0\x40\0\0\0\0\0\0", None),
+        (b"\xCB\x43\x50\0\0\0\0\0\0", Some(0x4350 << 48)),
+        (b"\xCB\x47\xEF\xFF\xFF\xE0\0\0\0", Some(0x47EF_FFFF_E000_0000)),
+        (b"\xCB\x47\xF0\0\0\0\0\0\0", None),
+        (b"\xCA\x7F\x80\0\0", None),
+        (b"\xCA\x7F\xC0\0\0", None),
+        (b"\xCB\x3F\xB9\x99\x99\x99\x99\x99\x9A", None),
+    ];
+    let before = b"\x87\xA7command\xA9dlDataQue\xA4opId\0\xA5epEui\0\xA5queId\0\xA9cntDepend\xC2\xA8userData\x91\x90\xA4prio";
+    for (prio, bits) in examples {
+        let payload = [before, prio].concat();
+        let mut lent = filled(0xEE);
+        calls::read(&payload, &mut lent);
+        bits.iter().for_each(|bits| assert_eq!(lent.message[32..40], bits.to_le_bytes()));
+        assert_eq!(stream.read(&payload, &filled(0xEE)), if bits.is_some() { value(16) } else { refused(15, 0) });
+    }
+}
+
+/// The longest message of all takes 1,909 bytes framed.
+fn longest_downlink(stream: &mut Stream) {
+    let whole = |number: u64| Value::Whole(number.into());
+    let mut longest = Record::new("dlDataQue", i64::MIN)
+        .with("epEui", whole(u64::MAX))
+        .with("queId", whole(u64::MAX))
+        .with("cntDepend", Value::Flag(true))
+        .with("packetCnt", Value::Counters(vec![u32::MAX; 16]))
+        .with("userData", Value::Entries(vec![vec![0xFF; 50]; 16]))
+        .with("format", whole(255))
+        .with("prio", Value::Real(1.5));
+    for key in ["responseExp", "responsePrio", "dlWindReq", "expOnly"] {
+        longest = longest.with(key, Value::Flag(true));
+    }
+    let image = image::of_record(&longest);
+    assert_eq!(stream.write(&image, &[0xEE; 1908]), refused(20, 0));
+    assert_eq!(stream.write(&image, &[0xEE; 1909]), value(1909));
+    let mut frame = [0; 1909];
+    calls::write(&image, &mut frame);
+    assert_eq!(stream.read(&frame[12..], &filled(0xEE)), value(859));
 }
 
 /// "Taking nil for absent: it is 15 (11 for command)."

@@ -1,12 +1,16 @@
 //! For each kind of field: values just in its range and just outside it, and values of other kinds.
 
+use super::downlinks;
 use super::node::{text, Node};
 use crate::reference::fields::{kind, Kind};
 
-pub fn values(key: &str) -> Vec<Node> {
-    let mut values = match kind(key) {
+pub fn values(command: &str, key: &str) -> Vec<Node> {
+    let mut values = match kind(command, key) {
         Kind::Whole(range) => wholes(*range.start(), *range.end()),
         Kind::Real => reals().into_iter().chain(wholes(-(1 << 53), 1 << 53)).chain([Node::Whole(-97)]).collect(),
+        Kind::Single => prios(),
+        Kind::Counters => counters(),
+        Kind::Entries => entries(),
         Kind::Location => locations(),
         Kind::Version => VERSIONS.iter().map(|version| text(version)).collect(),
         Kind::Bytes(range) => arrays(*range.start(), *range.end()),
@@ -66,6 +70,96 @@ pub fn reals() -> Vec<Node> {
         [0, 1, (1 << 52) - 1, 1 << 52, (0x7FF0 << 48) - 1, 0x7FF0 << 48, (0x7FF0 << 48) + 1, 0x7FF8 << 48, 0x4058_4000_0000_0000];
     let singles = single.iter().flat_map(|bits| [Node::Float32(*bits), Node::Float32(bits | 1 << 31)]);
     singles.chain(double.iter().flat_map(|bits| [Node::Float64(*bits), Node::Float64(bits | 1 << 63)])).collect()
+}
+
+/// All the reals above; the edges of single precision in every form, and float 64 just beside them: half of the smallest, one and
+/// a half of it, halves and smaller parts between singles, 2^128 and what would be rounded to it; whole numbers that fit and that
+/// don't.
+pub fn prios() -> Vec<Node> {
+    let singles = downlinks::edges().into_iter().flat_map(|edge| {
+        let wholes = (edge.to_bits() == (edge as i64 as f64).to_bits()).then_some(Node::Whole(edge as i128));
+        [Node::Float32((edge as f32).to_bits()), Node::Float64(edge.to_bits())].into_iter().chain(wholes)
+    });
+    let doubles = [
+        0x3690 << 48,
+        0x36A0 << 48 | 1,
+        0x36A8 << 48,
+        0x3698 << 48,
+        0x380F_FFFF_C000_0001,
+        0x380F_FFFF_E000_0000,
+        0x3810_0000_1000_0000,
+        0x3FF0_0000_1000_0000,
+        0x3FF0_0000_3000_0000,
+        0x3FF0_0000_0000_0001,
+        0x3FB9_9999_9999_999A,
+        0x47EF_FFFF_E000_0001,
+        0x47EF_FFFF_F000_0000,
+        0x47EF_FFFF_FFFF_FFFF,
+        0x47F0 << 48,
+    ];
+    let wholes = [
+        (1 << 24) + 1,
+        (1 << 24) + 2,
+        (1 << 25) + 2,
+        (1 << 25) + 4,
+        (1 << 31) - 1,
+        (1 << 32) - 1,
+        (1 << 32) - 256,
+        (1 << 52) + 1,
+        (1 << 53) - 1,
+        (1 << 53) - (1 << 28),
+        (1 << 53) - (1 << 29),
+        (1 << 53) + 1,
+        (1 << 53) + (1 << 30),
+        1 << 54,
+        1 << 62,
+    ];
+    let doubles = doubles.iter().flat_map(|bits| [Node::Float64(*bits), Node::Float64(bits | 1 << 63)]);
+    let wholes = wholes.iter().flat_map(|number| [Node::Whole(*number), Node::Whole(-*number)]);
+    singles.chain(doubles).chain(wholes).chain(reals()).chain(self::wholes(-(1 << 53), 1 << 53)).collect()
+}
+
+/// What is no counter and what is the last one.
+pub fn odd_counters() -> Vec<Node> {
+    let wholes = [-1, 0, u32::MAX.into(), 1 << 32, 1 << 63, (1 << 64) - 1, -(1 << 63)].map(Node::Whole);
+    wholes.into_iter().chain(one_of_each()).collect()
+}
+
+/// So many counters.
+pub fn some_counters(count: usize) -> Vec<Node> {
+    (0..count).map(|i| Node::Whole([7, 7, 300, 70_000][i % 4])).collect()
+}
+
+fn counters() -> Vec<Node> {
+    let mut values: Vec<Node> = (0..4).chain(14..19).map(|count| Node::Array(some_counters(count))).collect();
+    for odd in odd_counters() {
+        values.push(Node::Array(vec![odd.clone()]));
+        for at in [0, 15] {
+            let mut counters = some_counters(16);
+            counters[at] = odd.clone();
+            values.push(Node::Array(counters));
+        }
+    }
+    values.push(Node::Bin(vec![1; 4]));
+    values
+}
+
+/// A data entry of so many bytes.
+pub fn entry(length: usize) -> Node {
+    Node::Array(vec![Node::Whole(77); length])
+}
+
+/// One entry near each edge, several of them, and what is no entry or has what is no byte.
+fn entries() -> Vec<Node> {
+    let mut values: Vec<Node> = arrays(0, 245).into_iter().map(|entry| Node::Array(vec![entry])).collect();
+    values.extend((0..4).chain(14..19).map(|count| Node::Array(vec![entry(3); count])));
+    for odd in one_of_each() {
+        values.push(Node::Array(vec![odd.clone()]));
+        values.push(Node::Array(vec![Node::Array(vec![odd.clone()])]));
+        values.push(Node::Array(vec![entry(2), odd]));
+    }
+    values.push(entry(3));
+    values
 }
 
 /// Three reals of which one is any of the reals, a whole number or no real, and other counts of them.

@@ -119,8 +119,28 @@ fn ext(random: &mut Random, out: &mut Vec<u8>, bytes: &[u8]) {
     out.extend_from_slice(bytes);
 }
 
-const KEYS: [&str; 14] =
-    ["command", "opId", "epEui", "x", "", "commands", "opid", "version", "sign", "snr", "Command", "rsi", "dIOpen", "info"];
+const KEYS: [&str; 20] = [
+    "command",
+    "opId",
+    "epEui",
+    "x",
+    "",
+    "commands",
+    "opid",
+    "version",
+    "sign",
+    "snr",
+    "Command",
+    "rsi",
+    "dIOpen",
+    "info",
+    "packetCnt",
+    "userData",
+    "queID",
+    "queId",
+    "prio",
+    "expOnly",
+];
 
 /// A key that any map may have, also those of commands.
 pub fn any_key(random: &mut Random) -> Node {

@@ -33,8 +33,9 @@ pub fn one(stream: &mut Stream, random: &mut Random) {
 fn valid(random: &mut Random) -> Vec<u8> {
     let record = values::any(random);
     let pairs = dressed(random, &record);
+    let count = Node::Map(pairs.clone()).count();
     let payload = Node::Map(pairs).bytes(random);
-    if payload.len() <= 4096 {
+    if payload.len() <= 4096 && count <= 1024 {
         let (again, _) = read::read(&payload).expect("a valid payload reads");
         assert_eq!(image::of_record(&again), image::of_record(&record));
     }
@@ -61,7 +62,7 @@ pub fn dressed(random: &mut Random, record: &Record) -> Pairs {
     let mut pairs = plain(random, record);
     for key in record.command.keys().filter(|key| !key.kept) {
         if random.one_in(3) {
-            let value = d_value(random, key.name);
+            let value = d_value(random, record.command.name, key.name);
             pairs.push((text(key.name), value));
         }
     }
@@ -85,6 +86,8 @@ pub fn plain(random: &mut Random, record: &Record) -> Pairs {
             pairs.push((text(key.name), node(random, value)));
         } else if key.name == "format" && random.one_in(2) {
             pairs.push((text("format"), Node::Whole(0)));
+        } else if key.name == "prio" && random.one_in(2) {
+            pairs.push((text("prio"), random.pick(&[Node::Whole(0), Node::Float32(0), Node::Float64(0)])));
         }
     }
     pairs
@@ -97,8 +100,8 @@ fn unknown_key(random: &mut Random, record: &Record) -> Option<Node> {
     Some(key).filter(|key| !matches!(key, Node::Text(bytes) if has(bytes)))
 }
 
-pub fn d_value(random: &mut Random, key: &str) -> Node {
-    match kind(key) {
+pub fn d_value(random: &mut Random, command: &str, key: &str) -> Node {
+    match kind(command, key) {
         Kind::AnyMap => Node::Map((0..random.below(4)).map(|_| (any_key(random), any(random, 3))).collect()),
         _ => Node::Text({
             let length = random.pick(&[0, 1, 5, 31, 32, 100]);
@@ -114,9 +117,15 @@ fn node(random: &mut Random, value: &Value) -> Node {
         Value::Location(reals) => Node::Array(reals.iter().map(|number| real(random, *number)).collect()),
         Value::Flag(flag) => Node::Flag(*flag),
         Value::Version([major, minor, patch]) => text(&format!("{}.{}.{}", major, minor, patch)),
-        Value::Bytes(bytes) => Node::Array(bytes.iter().map(|byte| Node::Whole((*byte).into())).collect()),
+        Value::Bytes(list) => bytes_node(list),
         Value::Text(bytes) => Node::Text(bytes.clone()),
+        Value::Counters(counters) => Node::Array(counters.iter().map(|counter| Node::Whole((*counter).into())).collect()),
+        Value::Entries(entries) => Node::Array(entries.iter().map(|entry| bytes_node(entry)).collect()),
     }
+}
+
+fn bytes_node(bytes: &[u8]) -> Node {
+    Node::Array(bytes.iter().map(|byte| Node::Whole((*byte).into())).collect())
 }
 
 /// As a whole number or in float 32 at times, where that is exact; minus zero is no whole number.

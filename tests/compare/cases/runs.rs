@@ -67,10 +67,10 @@ fn message(random: &mut Random, session: &Session, mood: Mood) -> Record {
 fn finish(random: &mut Random, session: &Session) -> Record {
     let stations: Vec<&Place> = session.station.iter().filter(|place| place.id != 0).collect();
     let centres: Vec<&Place> = session.centre.iter().filter(|place| place.id != 0).collect();
-    let (places, ends) = if random.one_in(2) {
-        (stations, [(3, "detCmp"), (7, "ulDataCmp"), (9, "pingCmp"), (9, "pingCmp")])
+    let (places, ends): (_, &[(u8, &str)]) = if random.one_in(2) {
+        (stations, &[(3, "detCmp"), (7, "ulDataCmp"), (9, "pingCmp")])
     } else {
-        (centres, [(5, "attPrpRsp"), (6, "detPrpRsp"), (9, "pingRsp"), (12, "statusRsp")])
+        (centres, &[(5, "attPrpRsp"), (6, "detPrpRsp"), (9, "pingRsp"), (12, "statusRsp"), (21, "dlDataQueRsp")])
     };
     if places.is_empty() || random.one_in(12) {
         return sessions::about_entry(random, session);

@@ -65,7 +65,7 @@ pub fn any(random: &mut Random) -> Session {
         highest: id(random),
         lowest: -id(random).max(-i64::MAX),
         station: places(random, &[3, 7, 9]),
-        centre: places(random, &[5, 6, 9, 12]),
+        centre: places(random, &[5, 6, 9, 12, 21]),
     }
 }
 
@@ -81,7 +81,8 @@ fn places(random: &mut Random, starts: &[u8]) -> [Place; 16] {
     let free = random.pick(&[0, 0, 1, 4, 4, 8, 15, 16]);
     let mut places = [Place::default(); 16];
     for place in &mut places {
-        let kind = random.pick(&[random.0 as u8 % 21, starts[0], starts[1], starts[2], starts[starts.len() - 1]]);
+        let any = random.below(COMMANDS.len()) as u8;
+        let kind = if random.one_in(5) { any } else { random.pick(starts) };
         place.kind = if random.one_in(20) { random.byte() } else { kind };
         let open = id(random);
         place.id = if random.below(16) < free {
@@ -130,7 +131,7 @@ pub fn fitting(random: &mut Random, session: &Session) -> Record {
 
 /// A start of the station, with an ID just high enough or just not.
 pub fn start(random: &mut Random, session: &Session) -> Record {
-    let name = random.pick(&["ping", "det", "ulData", "ping", "det", "ulData", "status", "attPrp", "detPrp"]);
+    let name = random.pick(&["ping", "det", "ulData", "ping", "det", "ulData", "status", "attPrp", "detPrp", "dlDataQue"]);
     let gap = random.pick(&[1, 1, 1, 2, 5, 0, -1]);
     let base = random.pick(&[session.highest.max(0), session.highest.max(0), session.highest, 0]);
     values::of(random, name).with("opId", Value::Whole(base.saturating_add(gap).into()))
@@ -153,6 +154,8 @@ pub fn about_entry(random: &mut Random, session: &Session) -> Record {
         "detPrpRsp",
         "ulDataRsp",
         "statusCmp",
+        "dlDataQueRsp",
+        "dlDataQueCmp",
     ]);
     let known = COMMANDS.iter().any(|command| command.name == usual);
     let name = if known && !random.one_in(6) { &usual } else { odd };

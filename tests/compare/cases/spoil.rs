@@ -26,7 +26,10 @@ pub fn one(random: &mut Random, record: &Record, pairs: &mut Pairs) {
         }
         13 => command(random, pairs),
         14 => d_field(random, record, pairs),
-        _ => set(pairs, random.pick(&["dlOpen", "responseExp"]), Node::Flag(random.one_in(2))),
+        _ => {
+            let key = random.pick(&["dlOpen", "responseExp", "cntDepend"]);
+            set(pairs, key, Node::Flag(random.one_in(2)));
+        }
     }
 }
 
@@ -50,26 +53,35 @@ fn twice(random: &mut Random, pairs: &mut Pairs, at: usize) {
 fn edge(random: &mut Random, record: &Record, pairs: &mut Pairs) {
     let keys: Vec<Key> = record.command.keys().collect();
     let key = random.pick(&keys).name;
-    let value = random.pick(&near::values(key));
+    let value = random.pick(&near::values(record.command.name, key));
     pairs.retain(|pair| !matches!(&pair.0, Node::Text(text) if text == key.as_bytes()));
     pairs.insert(random.below(pairs.len() + 1), (text(key), value));
 }
 
-/// An entry of an array made wrong, taken out or put in.
+/// An entry of an array, or at times of an array in it, made wrong, taken out or put in.
 fn entry(random: &mut Random, pairs: &mut Pairs, at: usize) {
     let from =
         (0..pairs.len()).map(|i| (at + i) % pairs.len()).find(|i| matches!(&pairs[*i].1, Node::Array(list) if !list.is_empty()));
     if let Some(Node::Array(entries)) = from.map(|i| &mut pairs[i].1) {
-        let at = random.below(entries.len());
-        match random.below(4) {
-            0 => drop(entries.remove(at)),
-            1 => entries.insert(at, Node::Whole(random.below(256) as i128)),
-            2 => {
-                entries[at] =
-                    random.pick(&[Node::Whole(255), Node::Whole(256), Node::Whole(-1), Node::Nil, Node::Flag(true), text("1")])
-            }
-            _ => entries[at] = any(random, 1),
+        one_entry(random, entries);
+    }
+}
+
+fn one_entry(random: &mut Random, entries: &mut Vec<Node>) {
+    let at = random.below(entries.len());
+    match &mut entries[at] {
+        Node::Array(inner) if !inner.is_empty() && random.one_in(2) => return one_entry(random, inner),
+        _ => {}
+    }
+    match random.below(5) {
+        0 => drop(entries.remove(at)),
+        1 => entries.insert(at, Node::Whole(random.below(256) as i128)),
+        2 => {
+            entries[at] =
+                random.pick(&[Node::Whole(255), Node::Whole(256), Node::Whole(-1), Node::Nil, Node::Flag(true), text("1")])
         }
+        3 => entries.insert(at, entries[at].clone()),
+        _ => entries[at] = any(random, 1),
     }
 }
 
@@ -85,7 +97,7 @@ fn misstated(random: &mut Random, pairs: &mut Pairs, at: usize) {
 
 fn command(random: &mut Random, pairs: &mut Pairs) {
     let name = random.pick(&COMMANDS.iter().map(|command| command.name).collect::<Vec<_>>());
-    let strange = ["", "Ping", "ping ", "pin", "con\0", "att", "ulDataTx", "dlDataQue", "error"];
+    let strange = ["", "Ping", "ping ", "pin", "con\0", "att", "ulDataTx", "dlDataQu", "dlDataQueR", "dlDataRev", "error"];
     let value = match random.below(5) {
         0 => random.pick(&[
             Node::Nil,
@@ -109,7 +121,7 @@ fn d_field(random: &mut Random, record: &Record, pairs: &mut Pairs) {
     }
     let key = random.pick(&keys).name;
     let value = match random.below(3) {
-        0 => d_value(random, key),
+        0 => d_value(random, record.command.name, key),
         1 => random.pick(&[Node::Nil, text("text"), Node::Map(vec![]), Node::Array(vec![]), Node::Bin(b"text".to_vec())]),
         _ => any(random, 2),
     };

@@ -12,7 +12,7 @@ use crate::stream::Stream;
 pub fn all(stream: &mut Stream, random: &mut Random) {
     for command in &COMMANDS {
         for key in command.keys() {
-            for value in near::values(key.name) {
+            for value in near::values(command.name, key.name) {
                 let mut pairs = without(random, command, key.name);
                 pairs.insert(random.below(pairs.len() + 1), (text(key.name), value));
                 hand_over(stream, random, pairs);
@@ -39,7 +39,7 @@ fn without(random: &mut Random, command: &Command, key: &str) -> Pairs {
 fn absent_or_twice(stream: &mut Stream, random: &mut Random, command: &Command, key: Key) {
     let pairs = without(random, command, key.name);
     hand_over(stream, random, pairs);
-    for value in [Node::Nil, Node::Whole(0), d_value(random, key.name)] {
+    for value in [Node::Nil, Node::Whole(0), d_value(random, command.name, key.name)] {
         let mut pairs = without(random, command, key.name);
         (0..2).for_each(|_| pairs.insert(random.below(pairs.len() + 1), (text(key.name), value.clone())));
         hand_over(stream, random, pairs);

@@ -1,5 +1,6 @@
-//! Messages of every command: every member with contents at its edges, every byte that the command doesn't have, every mark, every
-//! length, every room. Each is written, arrives at a session, and is started by the centre where its command can be, else at times.
+//! Messages of every command: every member with contents at its edges, every byte that the command doesn't have, every mark,
+//! every length, every room. Each is written, arrives at a session, and is started by the centre where its command can be, else
+//! at times; and added to a queue where it is a downlink, else at times.
 
 use super::random::Random;
 use super::writes::ROOM;
@@ -7,7 +8,7 @@ use super::{images, sessions, values};
 use crate::reference::commands::{number, COMMANDS};
 use crate::reference::image::{self, Image, COMMAND};
 use crate::reference::layout::{self, fields, member, DATA, MESSAGE};
-use crate::reference::session::State;
+use crate::reference::session::{State, CENTRE_STARTS};
 use crate::reference::{calls, write};
 use crate::stream::Stream;
 
@@ -30,15 +31,18 @@ fn valid(random: &mut Random, name: &str) -> Image {
     images::of(random, &record)
 }
 
-fn hand_over(stream: &mut Stream, random: &mut Random, image: &Image) {
+pub fn hand_over(stream: &mut Stream, random: &mut Random, image: &Image) {
     stream.write(image, &random.bytes(ROOM));
     let mut session = sessions::any(random);
     sessions::hand_over(stream, random, &image::of_session(&session), image);
-    let starts = ["ping", "status", "attPrp", "detPrp"].map(number);
-    if image.message.get(COMMAND).map_or(true, |command| starts.contains(command)) || random.one_in(8) {
+    let is_one = |names: &[&str]| image.message.get(COMMAND).map_or(true, |is| names.iter().any(|name| number(name) == *is));
+    if is_one(&CENTRE_STARTS) || random.one_in(8) {
         session.state = State::Open;
         session.centre = Default::default();
         stream.begin(&image::of_session(&session), image, &random.bytes(ROOM));
+    }
+    if is_one(&["dlDataQue"]) || random.one_in(16) {
+        stream.queued(image);
     }
 }
 
@@ -119,14 +123,19 @@ fn message_lengths(stream: &mut Stream, random: &mut Random, name: &str) {
     }
 }
 
-/// Data of any length, to be handed in and to be read into; of every length where the message has some.
+/// Data of any length, to be handed in and to be read into; of every length that decides where the message has some.
 fn data_lengths(stream: &mut Stream, random: &mut Random, name: &str) {
-    let every = ["ulData", "statusRsp"].contains(&name);
-    let lengths = (0..DATA + 12).filter(|length| every || length % 60 == 0 || *length >= DATA - 2);
+    let every = match name {
+        "ulData" | "statusRsp" => 260,
+        "dlDataQue" => DATA,
+        _ => 0,
+    };
+    let lengths = (0..DATA + 12).filter(|length| *length < every || length % 60 == 0 || *length >= DATA - 2);
     for length in lengths.chain([300, 584, 4096]) {
         let record = values::of(random, name);
         let mut image = images::of(random, &record);
-        image.data = random.bytes(length);
+        image.data.truncate(length);
+        image.data.extend(random.bytes(length - image.data.len()));
         hand_over(stream, random, &image);
         let payload = write::write(&record)[12..].to_vec();
         stream.read(&payload, &Image { message: random.bytes(MESSAGE), data: image.data });
@@ -135,7 +144,7 @@ fn data_lengths(stream: &mut Stream, random: &mut Random, name: &str) {
 
 /// Every number that no command has, over the bytes of any message.
 fn unknown_commands(stream: &mut Stream, random: &mut Random) {
-    for command in 21..=255 {
+    for command in 24..=255 {
         let mut image = images::valid(random);
         image.message[COMMAND] = command;
         hand_over(stream, random, &image);

@@ -54,7 +54,7 @@ fn all_calls(stream: &mut Stream, random: &mut Random, session: &[u8]) {
 /// Entries of each kind under IDs of both signs on both sides, some of them twice; a free place with a kind.
 fn entries(random: &mut Random, state: State) -> Session {
     let mut session = sessions::any(random);
-    let kinds = [3, 5, 6, 7, 9, 12, 9, 12];
+    let kinds = random.pick(&[[3, 5, 6, 7, 9, 12, 9, 12], [3, 21, 6, 7, 9, 12, 21, 21]]);
     session.state = state;
     session.station = std::array::from_fn(|i| Place { id: [5, -5][i / 8] + [0, 10][i % 8 / 6], kind: kinds[i % 8] });
     session.centre = session.station;
@@ -92,12 +92,16 @@ fn starts(stream: &mut Stream, random: &mut Random, state: State, name: &str) {
     }
 }
 
-/// "a bad record there is 15 after 19": attPrp with each mark wrong, where 17, 18 or 19 come before it and where none does; then a
-/// command that there isn't.
+/// "a bad record there is 15 after 19": attPrp and dlDataQue with each mark wrong, or with no entries or too many, where 17, 18
+/// or 19 come before it and where none does; then a command that there isn't.
 fn bad_starts(stream: &mut Stream, random: &mut Random) {
-    let marks = images::marks(layout::message("attPrp"));
-    let faults: Vec<(usize, u8)> = marks.into_iter().flat_map(|at| [(at, 2), (at, 255)]).chain([(image::COMMAND, 21)]).collect();
-    for (at, byte) in faults {
+    let faults = ["attPrp", "dlDataQue"].into_iter().flat_map(|name| {
+        let layout = layout::message(name);
+        let marks = images::marks(layout).into_iter().flat_map(|at| [(at, 2), (at, 255)]);
+        let counts = layout::member(layout, "entries").into_iter().flat_map(|range| [(range.start, 0), (range.start, 17)]);
+        marks.chain(counts).chain([(image::COMMAND, 24)]).map(move |(at, byte)| (name, at, byte))
+    });
+    for (name, at, byte) in faults {
         for (state, lowest, id) in [
             (State::Open, 0, 0),
             (State::Open, 0, 3),
@@ -109,7 +113,7 @@ fn bad_starts(stream: &mut Stream, random: &mut Random) {
             let mut session = entries(random, state);
             session.lowest = lowest;
             session.centre.iter_mut().for_each(|place| place.id = id);
-            let record = values::of(random, "attPrp");
+            let record = values::of(random, name);
             let mut message = images::of(random, &record);
             message.message[at] = byte;
             stream.begin(&image::of_session(&session), &message, &random.bytes(ROOM));

@@ -1,5 +1,6 @@
 //! Valid records with any contents, the edges of every range among them.
 
+use super::downlinks;
 use super::random::Random;
 use crate::reference::commands::COMMANDS;
 use crate::reference::fields::{kind, Kind, Value};
@@ -8,7 +9,8 @@ use std::ops::RangeInclusive;
 
 /// A valid record of any command; those with fields come more often.
 pub fn any(random: &mut Random) -> Record {
-    let command = if random.one_in(3) { random.below(21) } else { random.below(8) };
+    let with_fields = random.pick(&[0, 1, 2, 3, 4, 5, 6, 7, 21]);
+    let command = if random.one_in(3) { random.below(COMMANDS.len()) } else { with_fields };
     of(random, COMMANDS[command].name)
 }
 
@@ -18,20 +20,27 @@ pub fn of(random: &mut Random, name: &str) -> Record {
     let share = random.pick(&[0, 1, 2, 2, 2]);
     for key in record.command.keys().filter(|key| key.kept) {
         if !key.optional || share == 1 || (share == 2 && random.one_in(2)) {
-            record.fields.insert(key.name, value(random, key.name));
+            record.fields.insert(key.name, value(random, record.command.name, key.name));
         }
     }
-    if record.flag("responseExp") && !record.flag("dlOpen") {
-        let key = random.pick(&["responseExp", "dlOpen"]);
-        record.fields.insert(key, Value::Flag(key == "dlOpen"));
+    match name {
+        "ulData" if record.flag("responseExp") && !record.flag("dlOpen") => {
+            let key = random.pick(&["responseExp", "dlOpen"]);
+            record.fields.insert(key, Value::Flag(key == "dlOpen"));
+        }
+        "dlDataQue" => downlinks::agree(random, &mut record),
+        _ => {}
     }
     record.normal()
 }
 
-fn value(random: &mut Random, key: &str) -> Value {
-    match kind(key) {
+fn value(random: &mut Random, command: &str, key: &str) -> Value {
+    match kind(command, key) {
         Kind::Whole(range) => Value::Whole(whole(random, &range)),
         Kind::Real => Value::Real(real(random)),
+        Kind::Single => Value::Real(downlinks::prio(random)),
+        Kind::Counters => Value::Counters(Vec::new()),
+        Kind::Entries => Value::Entries(Vec::new()),
         Kind::Location => Value::Location([real(random), real(random), real(random)]),
         Kind::Version => Value::Version([part(random), part(random), part(random)]),
         Kind::Bytes(range) => Value::Bytes(bytes(random, &range)),

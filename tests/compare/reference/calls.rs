@@ -1,10 +1,11 @@
 //! The header's calls on bytes and columns: the answer, and the lent bytes afterwards.
 //! "Lent memory and session keep what they held" where a call is refused.
 
-use super::commands::COMMANDS;
+use super::commands::{number, COMMANDS};
 use super::fields::Value;
 use super::image::{of_record, of_session, to_record, to_session, Image, COMMAND};
-use super::layout::{DATA, MESSAGE};
+use super::layout::{DATA, ENTRIES, MESSAGE};
+use super::queue::{Queue, PLACES};
 use super::record::Record;
 use super::refusal::*;
 use super::session::{Happened, Host};
@@ -90,6 +91,104 @@ pub fn lost(session: &mut [u8]) -> u64 {
         session.copy_from_slice(&of_session(&step.session));
         answer(step.happened as u8, 0)
     }))
+}
+
+/// A lent queue: its bytes, and what the calls have made of them since they were all zeros.
+#[derive(Clone, Debug)]
+pub struct Store {
+    pub bytes: Vec<u8>,
+    pub queue: Queue,
+}
+
+/// "Each of its CHZ_QUEUE places is a message, used exactly if its command is CHZ_DL_DATA_QUE."
+pub const PLACE: usize = MESSAGE + DATA;
+pub const QUEUE: usize = PLACES * PLACE;
+
+/// The bytes beside a dlDataQue up to the end of its last entry.
+pub fn said(record: &Record) -> usize {
+    ENTRIES + record.entries().iter().map(Vec::len).sum::<usize>()
+}
+
+fn downlink(image: &Image) -> Option<Record> {
+    to_record(image).filter(|record| record.command.name == "dlDataQue")
+}
+
+impl Store {
+    /// "All zeros is an empty one."
+    pub fn empty() -> Store {
+        Store { bytes: vec![0; QUEUE], queue: Queue::empty() }
+    }
+
+    /// Any bytes as a queue, if each used place has a valid record.
+    pub fn of(bytes: &[u8]) -> Option<Store> {
+        if bytes.len() != QUEUE {
+            return None;
+        }
+        let mut queue = Queue::empty();
+        for (place, bytes) in bytes.chunks(PLACE).enumerate() {
+            if bytes[COMMAND] == number("dlDataQue") {
+                queue.0[place] = Some(downlink(&Image { message: bytes[..MESSAGE].to_vec(), data: bytes[MESSAGE..].to_vec() })?);
+            }
+        }
+        Some(Store { bytes: bytes.to_vec(), queue })
+    }
+
+    /// "a queue that is not sizeof(chz_queue) bytes long is 15 in each of these calls"
+    fn whole(&mut self) -> Result<&mut Queue, Refusal> {
+        if self.bytes.len() == QUEUE {
+            Ok(&mut self.queue)
+        } else {
+            Err(INVALID)
+        }
+    }
+
+    /// "It is removed: its place is free, and all but its command still stands there."
+    fn free(&mut self, place: usize) {
+        self.bytes[place * PLACE + COMMAND] = 0;
+    }
+}
+
+/// "15 bad record, then 27 queue ID there, then 28 exactly if all 32 are used"; "Takes the lowest free place for a dlDataQue; the
+/// value is the place." The record stands there as it would be read, and behind it the data that it says as they were handed in.
+pub fn add(store: &mut Store, image: &Image) -> u64 {
+    let mut step = || {
+        store.whole()?;
+        let record = downlink(image).ok_or(INVALID)?;
+        let place = store.queue.add(record.clone())?;
+        let (message, data) = store.bytes[place * PLACE..][..PLACE].split_at_mut(MESSAGE);
+        message.copy_from_slice(&of_record(&record).message);
+        data[..said(&record)].copy_from_slice(&image.data[..said(&record)]);
+        Ok(answer(0, place))
+    };
+    answered(step())
+}
+
+/// "Frees the place of a queue ID; the value is the place."
+pub fn cancel(store: &mut Store, que_id: u64) -> u64 {
+    let place = store.whole().and_then(|queue| queue.cancel(que_id));
+    answered(place.map(|place| {
+        store.free(place);
+        answer(0, place)
+    }))
+}
+
+/// The answer and the data that it shows: the value is the place and, 256 times, their length and, 65,536 times, where they stand
+/// among the bytes beside the message.
+pub fn choose(store: &mut Store, meter: u64, counter: u32, expected: u8) -> (u64, Vec<u8>) {
+    match store.whole().and_then(|queue| queue.choose(meter, counter, expected != 0)) {
+        Ok(chosen) => {
+            store.free(chosen.place);
+            let (before, rest) = chosen.record.entries().split_at(chosen.entry);
+            let from = ENTRIES + before.iter().map(Vec::len).sum::<usize>();
+            (answer(0, chosen.place + 256 * rest[0].len() + 65536 * from), rest[0].clone())
+        }
+        Err(refusal) => (answered(Err(refusal)), Vec::new()),
+    }
+}
+
+/// "Whether these bytes are a queue that the calls made from an empty one: the value is 1 or 0."
+pub fn sound(bytes: &[u8]) -> u64 {
+    answer(0, Store::of(bytes).map_or(false, |store| store.queue.ids_differ()).into())
 }
 
 /// "Columns lent by the caller"

@@ -1,4 +1,5 @@
-//! The 21 commands and the keys that each has, as document 01 lists them.
+//! The 24 commands and the keys that each has: 21 as document 01 lists them, and document 02's Q-2, "source document 000, 5.12,
+//! fields in that order".
 
 #[derive(Debug)]
 pub struct Command {
@@ -29,7 +30,7 @@ impl Command {
 
 /// The command's number in the header's enum.
 pub fn number(name: &str) -> u8 {
-    COMMANDS.iter().position(|command| command.name == name).expect("one of the 21") as u8
+    COMMANDS.iter().position(|command| command.name == name).expect("one of the 24") as u8
 }
 
 pub fn named(name: &[u8]) -> Option<&'static Command> {
@@ -48,7 +49,7 @@ const fn plain(name: &'static str) -> Command {
 }
 
 /// In the order of the header's numbers.
-pub static COMMANDS: [Command; 21] = [
+pub static COMMANDS: [Command; 24] = [
     with("con", &["version", "bsEui", "bidi", "geoLocation?", "snBsUuid", "snBsOpId?", "snScOpId?"], MAKER),
     with("conRsp", &["version?", "scEui", "snResume", "snScUuid"], MAKER),
     with(
@@ -96,4 +97,23 @@ pub static COMMANDS: [Command; 21] = [
     plain("detPrpCmp"),
     plain("ulDataRsp"),
     plain("ulDataCmp"),
+    with(
+        "dlDataQue",
+        &[
+            "epEui",
+            "queId",
+            "cntDepend",
+            "packetCnt?",
+            "userData",
+            "format?",
+            "prio?",
+            "responseExp?",
+            "responsePrio?",
+            "dlWindReq?",
+            "expOnly?",
+        ],
+        &[],
+    ),
+    plain("dlDataQueRsp"),
+    plain("dlDataQueCmp"),
 ];

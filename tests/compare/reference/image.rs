@@ -1,11 +1,11 @@
 //! A record or a session as the bytes of the header's struct, and back.
 //! "Nothing else is looked at" than a command's own fields, and of these a record's bytes are the only ones: marks 0 or 1, absent
 //! fields and what stands behind a profile zero. So an image is a record's exactly if laying that record out gives the same
-//! fields again.
+//! fields again. Of the data only what the fields say is looked at.
 
 use super::commands::{self, COMMANDS};
 use super::fields::{kind, Kind, Value};
-use super::layout::{self, fields, member, size, Layout, MESSAGE, SESSION};
+use super::layout::{self, fields, member, size, Layout, COUNTER, DATA, ENTRIES, LENGTHS, MESSAGE, SESSION};
 use super::record::Record;
 use super::session::{Place, Session, State};
 use std::collections::HashMap;
@@ -52,10 +52,12 @@ fn number(bytes: &[u8]) -> u64 {
     bytes.iter().rev().fold(0, |number, byte| number << 8 | u64::from(*byte))
 }
 
-/// Zeros where the command has nothing; no more data than the record has.
+/// Zeros where the command has nothing; no more data than the record has: of a dlDataQue all counters and lengths, zeros in
+/// those that it doesn't use, and the bytes of its entries.
 pub fn of_record(record: &Record) -> Image {
     let layout = layout::message(record.command.name);
-    let mut image = Image { message: vec![0; MESSAGE], data: Vec::new() };
+    let data = if record.command.name == "dlDataQue" { vec![0; DATA] } else { Vec::new() };
+    let mut image = Image { message: vec![0; MESSAGE], data };
     put(layout, &mut image.message, "command", &[commands::number(record.command.name)]);
     for (key, value) in &record.fields {
         put_value(layout, &mut image, key, value);
@@ -83,6 +85,18 @@ fn put_value(layout: Layout, image: &mut Image, key: &str, value: &Value) {
             VERSION.iter().zip(parts).for_each(|(name, part)| put(layout, message, name, &part.to_le_bytes()));
         }
         Value::Bytes(bytes) | Value::Text(bytes) => put_bytes(layout, image, key, bytes),
+        Value::Counters(counters) => {
+            let bytes: Vec<u8> = counters.iter().flat_map(|counter| counter.to_le_bytes()).collect();
+            image.data[..bytes.len()].copy_from_slice(&bytes);
+        }
+        Value::Entries(entries) => {
+            put(layout, message, "entries", &[entries.len() as u8]);
+            let (lengths, bytes): (Vec<u8>, Vec<u8>) =
+                (entries.iter().map(|entry| entry.len() as u8).collect(), entries.concat());
+            image.data[LENGTHS..][..lengths.len()].copy_from_slice(&lengths);
+            image.data[ENTRIES..][..bytes.len()].copy_from_slice(&bytes);
+            image.data.truncate(ENTRIES + bytes.len());
+        }
     }
 }
 
@@ -108,7 +122,7 @@ pub fn to_record(image: &Image) -> Option<Record> {
     for key in command.keys().filter(|key| key.kept) {
         let mark = format!("has_{}", snake(key.name));
         if member(layout, &mark).map_or(true, |mark| image.message[mark][0] == 1) {
-            if let Some(value) = get_value(layout, image, key.name)? {
+            if let Some(value) = get_value(command.name, layout, image, key.name)? {
                 values.insert(key.name, value);
             }
         }
@@ -121,31 +135,54 @@ fn same_fields(layout: Layout, one: &Image, other: &Image) -> bool {
     fields(layout).all(|(_, range)| one.message[range.clone()] == other.message[range])
 }
 
-/// None: a length that its bytes don't have. Some(None): a profile of length 0 or a format of 0, which mean absent.
-fn get_value(layout: Layout, image: &Image, key: &str) -> Option<Option<Value>> {
+/// None: a length that its bytes don't have. Some(None): a profile of length 0, a format of 0, a prio of plus zero or the
+/// counters of what isn't counter dependent, which mean absent.
+fn get_value(command: &str, layout: Layout, image: &Image, key: &str) -> Option<Option<Value>> {
     let name = snake(key);
     let part = |name: &str| get(layout, &image.message, name);
     let real = |name: &str| f64::from_bits(number(part(name)));
-    let value = match kind(key) {
+    let value = match kind(command, key) {
         Kind::Whole(range) => {
             let (bits, unused) = (number(part(&name)), 64 - 8 * part(&name).len() as u32);
             // snBsOpId is a signed member though its range starts at 0
             let signed = *range.start() < 0 || key == "snBsOpId";
             Value::Whole(if signed { ((bits << unused) as i64 >> unused).into() } else { bits.into() })
         }
-        Kind::Real => Value::Real(real(&name)),
+        Kind::Real | Kind::Single => Value::Real(real(&name)),
         Kind::Location => Value::Location([real(LOCATION[0]), real(LOCATION[1]), real(LOCATION[2])]),
         Kind::Version => Value::Version([0, 1, 2].map(|i: usize| number(part(VERSION[i])) as u16)),
         Kind::Bytes(_) => Value::Bytes(counted(layout, image, key)?),
         Kind::Text(_) => Value::Text(counted(layout, image, key)?),
+        Kind::Counters if part("cnt_depend")[0] == 0 => return Some(None),
+        Kind::Counters => Value::Counters(counters(part("entries")[0] as usize, &image.data)?),
+        Kind::Entries => Value::Entries(entries(part("entries")[0] as usize, &image.data)?),
         _ => Value::Flag(part(&name)[0] == 1),
     };
     let absent = match &value {
         Value::Text(text) => key == "profile" && text.is_empty(),
         Value::Whole(number) => key == "format" && *number == 0,
+        Value::Real(number) => key == "prio" && number.to_bits() == 0,
         _ => false,
     };
     Some(if absent { None } else { Some(value) })
+}
+
+/// The first counters of the data beside a dlDataQue.
+fn counters(count: usize, data: &[u8]) -> Option<Vec<u32>> {
+    let bytes = data.get(..LENGTHS)?.get(..COUNTER * count)?;
+    Some(bytes.chunks(COUNTER).map(|counter| number(counter) as u32).collect())
+}
+
+/// The first entries of the data beside a dlDataQue: "The entries' bytes stand one behind the other."
+fn entries(count: usize, data: &[u8]) -> Option<Vec<Vec<u8>>> {
+    let lengths = data.get(LENGTHS..ENTRIES)?.get(..count)?;
+    let mut bytes = &data[ENTRIES..];
+    let mut entries = Vec::new();
+    for length in lengths {
+        entries.push(bytes.get(..*length as usize)?.to_vec());
+        bytes = &bytes[*length as usize..];
+    }
+    Some(entries)
 }
 
 /// The first bytes of the data or of an array, as many as a length member states; all where there is none.

@@ -8,7 +8,7 @@ type Part = &'static [(&'static str, usize)];
 
 /// The header's CHZ_MESSAGE and CHZ_DATA.
 pub const MESSAGE: usize = 104;
-pub const DATA: usize = 245;
+pub const DATA: usize = 880;
 
 /// All members with their bytes, also those that are reserved.
 pub fn members(layout: Layout) -> impl Iterator<Item = (&'static str, Range<usize>)> {
@@ -39,6 +39,7 @@ pub fn message(command: &str) -> Layout {
         "attPrp" => &[HEAD, ATT_PRP],
         "detPrp" => &[HEAD, DET_PRP],
         "ulData" => &[HEAD, PACKET, UL_DATA],
+        "dlDataQue" => &[HEAD, DL_DATA_QUE],
         _ => &[HEAD],
     }
 }
@@ -82,6 +83,18 @@ const ATT_PRP: Part = &[
 const DET_PRP: Part = &[("ep_eui", 8)];
 
 const UL_DATA: Part = &[("user_len", 1), ("format", 1), ("dl_open", 1), ("response_exp", 1), ("dl_ack", 1)];
+
+#[rustfmt::skip]
+const DL_DATA_QUE: Part = &[
+    ("ep_eui", 8), ("que_id", 8), ("prio", 8), ("entries", 1), ("format", 1), ("cnt_depend", 1),
+    ("has_response_exp", 1), ("response_exp", 1), ("has_response_prio", 1), ("response_prio", 1),
+    ("has_dl_wind_req", 1), ("dl_wind_req", 1), ("has_exp_only", 1), ("exp_only", 1),
+];
+
+/// What stands beside a dlDataQue: sixteen counters of four bytes, sixteen lengths, and the entries' bytes.
+pub const COUNTER: usize = 4;
+pub const LENGTHS: usize = 64;
+pub const ENTRIES: usize = 80;
 
 #[rustfmt::skip]
 pub const SESSION: Layout = &[&[

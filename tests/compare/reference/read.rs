@@ -28,7 +28,7 @@ fn all<'a>(pairs: &'a Pairs, key: &'a str) -> impl Iterator<Item = &'a Element> 
     pairs.iter().filter(move |pair| pair.0 == key.as_bytes()).map(|pair| &pair.1)
 }
 
-/// "11: command missing, twice or not text"; "12: command not among the 21".
+/// "11: command missing, twice or not text"; "12: command not among the 21", now 24.
 fn command(pairs: &Pairs) -> Result<&'static Command, Refusal> {
     let found: Vec<&Element> = all(pairs, "command").collect();
     match found[..] {
@@ -41,7 +41,7 @@ fn command(pairs: &Pairs) -> Result<&'static Command, Refusal> {
 fn values(command: &'static Command, pairs: &Pairs) -> Option<Record> {
     let mut fields = HashMap::new();
     for key in command.keys() {
-        let kind = kind(key.name);
+        let kind = kind(command.name, key.name);
         match all(pairs, key.name).next() {
             Some(element) if key.kept => fields.insert(key.name, value(&kind, element)?),
             Some(element) if !has_type(&kind, element) => return None,

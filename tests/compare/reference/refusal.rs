@@ -1,4 +1,4 @@
-//! Why a call is refused: its number in document 01's table.
+//! Why a call is refused: its number in document 01's table, or in document 02's Q-2.
 //! "A refusal returns its number, the byte place for 4–10, and zeros besides."
 
 #[derive(Clone, Copy, Debug, PartialEq, Eq)]
@@ -44,3 +44,7 @@ pub const NO_FREE_ROW: Refusal = plain(23);
 pub const UNEQUAL_COLUMNS: Refusal = plain(24);
 pub const STATION_NUMBER: Refusal = plain(25);
 pub const STALE: Refusal = plain(26);
+pub const QUEUE_ID_THERE: Refusal = plain(27);
+pub const QUEUE_FULL: Refusal = plain(28);
+pub const NO_QUEUE_ID: Refusal = plain(29);
+pub const NOTHING_SUITABLE: Refusal = plain(30);

@@ -61,6 +61,9 @@ pub struct Step {
     pub send: Option<Record>,
 }
 
+/// "The centre starts ping, status, attPrp, detPrp", and by document 02's Q-2 dlDataQue.
+pub const CENTRE_STARTS: [&str; 5] = ["ping", "status", "attPrp", "detPrp", "dlDataQue"];
+
 /// "the lowest free place is taken"
 fn open(places: &mut [Place; 16], id: i64, start: &str) -> Result<(), Refusal> {
     let free = places.iter_mut().find(|place| place.id == 0).ok_or(SIXTEEN_OPEN)?;
@@ -96,6 +99,7 @@ impl Session {
             (State::Open, "statusRsp") => self.answered(message, "status", "statusCmp"),
             (State::Open, "attPrpRsp") => self.answered(message, "attPrp", "attPrpCmp"),
             (State::Open, "detPrpRsp") => self.answered(message, "detPrp", "detPrpCmp"),
+            (State::Open, "dlDataQueRsp") => self.answered(message, "dlDataQue", "dlDataQueCmp"),
             _ => Err(STATE),
         }
     }
@@ -173,9 +177,9 @@ impl Session {
         Ok(Step { session, happened: Happened::Answered, send: Some(Record::new(complete, message.op_id())) })
     }
 
-    /// "The centre starts ping, status, attPrp, detPrp"; the session after it, with the ID issued as its lowest.
+    /// The session after a start of the centre, with the ID issued as its lowest.
     pub fn begin(&self, name: &str) -> Result<Session, Refusal> {
-        if self.state != State::Open || !["ping", "status", "attPrp", "detPrp"].contains(&name) {
+        if self.state != State::Open || !CENTRE_STARTS.contains(&name) {
             return Err(STATE);
         }
         // "downward from −1, each one below the last. At −2^63 no more start (18)."

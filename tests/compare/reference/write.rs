@@ -30,11 +30,21 @@ fn value(out: &mut Vec<u8>, value: &Value) {
             array(out, 3);
             numbers.iter().for_each(|number| real(out, *number));
         }
-        Value::Bytes(bytes) => {
-            array(out, bytes.len());
-            bytes.iter().for_each(|byte| whole(out, (*byte).into()));
+        Value::Bytes(list) => bytes(out, list),
+        Value::Counters(counters) => {
+            array(out, counters.len());
+            counters.iter().for_each(|counter| whole(out, (*counter).into()));
+        }
+        Value::Entries(entries) => {
+            array(out, entries.len());
+            entries.iter().for_each(|entry| bytes(out, entry));
         }
     }
+}
+
+fn bytes(out: &mut Vec<u8>, bytes: &[u8]) {
+    array(out, bytes.len());
+    bytes.iter().for_each(|byte| whole(out, (*byte).into()));
 }
 
 fn whole(out: &mut Vec<u8>, number: i128) {

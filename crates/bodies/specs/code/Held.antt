@@ -4,13 +4,13 @@ use mathlib.Core.Bool.{Bool, true, false, _&&_, not}
 use mathlib.Core.List.{List, []}
 use lib.Dec.{eqb}
 use Rattle.octets.specs.Choice.{either}
-use Rattle.field.specs.Cell.{Cell}
-use Rattle.message.specs.Record.{wordIn, idIn, markIn, maybeWord, maybeId, maybeReal, maybePosition}
+use Rattle.field.specs.{Cell.Cell, code.Told.cellState}
+use Rattle.message.specs.Record.{wordIn, idIn, maybeWord, maybeId, maybeReal, maybeMark, maybePosition}
 use Rattle.message.specs.Reading.{cellFault, graded}
 use Rattle.record.specs.declared.Sixteen.{Sixteen}
 use Rattle.record.specs.Record.{maybeVersion, fourOf, fourIn, sixteenOf, sixteenIn}
 use Rattle.bodies.specs.declared.{HeldWord.HeldWord, HeldCount.HeldCount, HeldShort.HeldShort, HeldOctet.HeldOctet, HeldId.HeldId}
-use Rattle.bodies.specs.declared.{HeldCode.HeldCode, HeldMark.HeldMark, HeldReal.HeldReal, HeldPosition.HeldPosition, HeldVersion.HeldVersion}
+use Rattle.bodies.specs.declared.{HeldCode.HeldCode, HeldMark.HeldMark, HeldParts.HeldParts, HeldReal.HeldReal, HeldPosition.HeldPosition, HeldVersion.HeldVersion}
 use Rattle.bodies.specs.declared.{HeldFour.HeldFour, HeldSixteen.HeldSixteen, HeldProfile.HeldProfile}
 
 -- the gravest of w and the fault of a field at place i of its list
@@ -41,6 +41,12 @@ module _ (must : Bool) (i : ℕ) (c : Cell) (w : ℕ) where
   unfoldable pub realAs : HeldReal
   realAs = record { worst = judgedAs must i c w; value = maybeReal c }
 
+  unfoldable pub markAs : HeldMark
+  markAs = record { worst = judgedAs must i c w; value = maybeMark c }
+
+  unfoldable pub partsAs : HeldParts
+  partsAs = record { worst = judgedAs must i c w; state = cellState c; count = wordIn c }
+
   unfoldable pub versionAs : HeldVersion
   versionAs = record { worst = judgedAs must i c w; value = maybeVersion c }
 
@@ -53,9 +59,6 @@ module _ (i : ℕ) (c : Cell) (w : ℕ) where
 
   unfoldable pub codeAs : HeldCode
   codeAs = record { worst = judgedAs true i c w; value = idIn c }
-
-  unfoldable pub markAs : HeldMark
-  markAs = record { worst = judgedAs true i c w; value = markIn c }
 
   unfoldable pub positionAs : HeldPosition
   positionAs = record { worst = judgedAs false i c w; value = maybePosition c }

@@ -6,8 +6,9 @@ use Rattle.faults.proofs.body_fault.Tie as tie
 pub body-fault-spec : {M : Type 1} → statement M
 body-fault-spec =
     tie.close
-    (tie.spec (λ c. search needs) (search needs) (λ c. search needs) (search needs) (λ c. search needs) (search needs) (λ c. search needs) (search needs)
-    (λ c. search needs) (λ c. search needs) (λ c. search needs) (λ c. search needs) (search needs) (λ c. search needs) (search needs)
+    (tie.spec (λ c. search needs) (λ c κs. search needs) (λ c. search needs) (λ c κs. search needs) (λ c. search needs) (λ c κs. search needs)
+    (λ c. search needs) (λ c κs. search needs) (λ c. search needs) (λ c. search needs) (λ c. search needs) (λ c. search needs) (λ c κs. search needs)
+    (λ c. search needs) (λ c κs. search needs) (λ c. search needs) (λ c κs. search needs)
     (λ c. search (bodies, needs)) (λ c. search (bodies, needs)) (λ c. search (bodies, needs)) (λ c. search (bodies, needs))
     (λ c. search (bodies, needs)) (λ c. search (bodies, needs)) (λ c. search (bodies, needs)) (λ c. search (bodies, needs))
-    (λ c. search (bodies, needs)))
+    (λ c. search (bodies, needs)) (λ c. search (bodies, needs)))

@@ -1,15 +1,21 @@
 -- Serves the proofs only: the tests of a command's fields in their order, as the code makes them. proofs/Bodies ties them to record's Fits.
 use mathlib.Core.Path.{_≡_}
-use Prim.Native.Nat.{ℕ, zero, suc, _-_}
+use Prim.Native.Nat.{ℕ, zero, suc, _+_, _-_}
 use mathlib.Core.Bool.{Bool, not, _&&_, _||_}
-use lib.{Dec.eqb, Dec.leb, Dec.ltb, Ieee.Float, ListN.drop}
-use Rattle.octets.specs.Choice.{either}
+use mathlib.Core.List.{List, [], _∷_}
+use lib.{Dec.eqb, Dec.leb, ListN.length, ListN.drop}
+use lib.Ieee.{Float, binary32, fits as holds}
+use Rattle.octets.specs.{Choice.either, Pieces.piecesPlace, Pieces.lengthsLent}
 use Rattle.field.specs.Judge.{inRange}
-use Rattle.message.specs.declared.{MaybeWord.MaybeWord, MaybeId.MaybeId, MaybePosition.MaybePosition, MaybeVersion.MaybeVersion}
-use Rattle.record.specs.declared.{Sixteen.Sixteen, Con.Con, ConRsp.ConRsp, StatusRsp.StatusRsp, Packet.Packet, UlData.UlData, Body.Body}
+use Rattle.message.specs.declared.{MaybeWord.MaybeWord, MaybeId.MaybeId, MaybeMark.MaybeMark, MaybePosition.MaybePosition, MaybeVersion.MaybeVersion}
+use Rattle.record.specs.declared.{Sixteen.Sixteen, Con.Con, ConRsp.ConRsp, StatusRsp.StatusRsp, Packet.Packet, UlData.UlData, DlDataQue.DlDataQue, Body.Body}
 use Rattle.saying.specs.Says.{isZero, noBits, noPosition, areNulls}
 use Rattle.saying.specs.Fits.{isReal, isPosition}
-use Rattle.record.specs.Says.{sixteenBytes}
+use Rattle.record.specs.Says.{sixteenBytes, isBare}
+
+-- a finite real that single precision holds too
+unfoldable pub isSingle : Float → Bool
+isSingle x = isReal x && holds binary32 x
 
 -- what may be absent is zero then
 unfoldable pub realFits : Bool → Float → Bool
@@ -28,6 +34,9 @@ centreIdFits x = either (x .here) (λ _. inRange 0x8000000000000000 0 (x .value)
 abbrev pub wordFits : MaybeWord → Bool
 wordFits x = x .here || eqb (x .value) 0
 
+abbrev pub markFits : MaybeMark → Bool
+markFits x = x .here || not (x .value)
+
 abbrev pub versionFits : MaybeVersion → Bool
 versionFits x = x .here || (eqb (x .major) 0 && (eqb (x .minor) 0 && eqb (x .patch) 0))
 
@@ -38,6 +47,19 @@ tailFits x n = leb n 16 && areNulls (16 - n) (drop n (sixteenBytes x))
 -- so many bytes are lent, and no more than the field may have
 abbrev pub lentFits : ℕ → ℕ → ℕ → Bool
 lentFits most n lent = leb n most && leb n lent
+
+-- as many counters as data entries, where there are counters; else one entry
+unfoldable pub countsFit : Bool → ℕ → Bool
+countsFit depends n = either depends (λ _. leb 1 n && leb n 16) (λ _. eqb n 1)
+
+-- data entries of these lengths, behind others of so many bytes: each and all together have no more than they may, and so many bytes are lent
+unfoldable pub lengthsFit : List ℕ → ℕ → ℕ → Bool
+lengthsFit [] sum lent = leb sum 800 && leb (piecesPlace + sum) lent
+lengthsFit (n ∷ ns) sum lent = leb n 245 && lengthsFit ns (sum + n) lent
+
+-- the first n entries of lent bytes
+unfoldable pub piecesFit : ℕ → List ℕ → Bool
+piecesFit n d = leb n 16 && lengthsFit (lengthsLent n d) 0 (length d)
 
 -- a field's number where it fails its test, else what is told of those behind it
 unfoldable pub faultUnless : Bool → ℕ → ℕ → ℕ
@@ -83,20 +105,32 @@ ulDataFault x lent =
     (faultUnless (lentFits 245 (x .«user_len») lent) 11
     (faultUnless (not (x .«response_exp») || x .«dl_open») 14 0))
 
-abbrev pub bareFault : ℕ → ℕ
-bareFault c = faultUnless (leb 8 c && ltb c 21) 1 0
+abbrev pub dlDataQueFault : DlDataQue → List ℕ → ℕ
+dlDataQueFault x d =
+    faultUnless (countsFit (x .«cnt_depend») (x .entries)) 6
+    (faultUnless (piecesFit (x .entries) d) 7
+    (faultUnless (isSingle (x .prio)) 9
+    (faultUnless (markFits (x .«response_exp»)) 10
+    (faultUnless (markFits (x .«response_prio»)) 11
+    (faultUnless (markFits (x .«dl_wind_req»)) 12
+    (faultUnless (markFits (x .«exp_only»)) 13 0))))))
 
-unfoldable pub bodyFault : Body → ℕ → ℕ
-bodyFault (Body.Con x) lent = conFault x
-bodyFault (Body.ConRsp x) lent = conRspFault x
-bodyFault (Body.StatusRsp x) lent = statusFault x lent
-bodyFault (Body.Det x) lent = packetFault (x .packet)
-bodyFault (Body.DetRsp sign) lent = 0
-bodyFault (Body.AttPrp x) lent = 0
-bodyFault (Body.DetPrp eui) lent = 0
-bodyFault (Body.UlData x) lent = ulDataFault x lent
-bodyFault (Body.Bare c) lent = bareFault c
+abbrev pub bareFault : ℕ → ℕ
+bareFault c = faultUnless (isBare c) 1 0
+
+-- with the bytes d that are lent
+unfoldable pub bodyFault : Body → List ℕ → ℕ
+bodyFault (Body.Con x) d = conFault x
+bodyFault (Body.ConRsp x) d = conRspFault x
+bodyFault (Body.StatusRsp x) d = statusFault x (length d)
+bodyFault (Body.Det x) d = packetFault (x .packet)
+bodyFault (Body.DetRsp sign) d = 0
+bodyFault (Body.AttPrp x) d = 0
+bodyFault (Body.DetPrp eui) d = 0
+bodyFault (Body.UlData x) d = ulDataFault x (length d)
+bodyFault (Body.DlDataQue x) d = dlDataQueFault x d
+bodyFault (Body.Bare c) d = bareFault c
 
 -- what is told without a look at the fields, unless it waits for them
 pub record AtOnce (b : Body) (r : ℕ) : Type 0 where
-  pub told : (lent : ℕ) → (r ≡ 255 → ⊥) → r ≡ bodyFault b lent
+  pub told : (d : List ℕ) → (r ≡ 255 → ⊥) → r ≡ bodyFault b d

@@ -6,5 +6,5 @@ use Rattle.field.proofs.octets_read.Tie as tie
 pub octets-read-spec : {M : Type 1} → statement M
 octets-read-spec =
     tie.close
-    (tie.spec (λ c κs. search (reads, needs)) (λ c. search (reads, needs)) (λ c κs. search (reads, needs)) (λ c. search (reads, needs))
-    (λ c. search (reads, needs)))
+    (tie.spec (λ c κs. search (reads, needs)) (λ c. search (reads, needs)) (λ c κs. search (reads, needs)) (λ c κs. search (reads, needs))
+    (λ c. search (reads, needs)) (λ c. search (reads, needs)))

@@ -6,7 +6,8 @@ use lib.ListN.{length, getD, take, drop}
 use Rattle.octets.specs.Choice.{either}
 use Rattle.element.specs.declared.Shape.{Shape, the-variants.Never, the-variants.Plain, the-variants.Text, the-variants.Array, the-variants.Map}
 use Rattle.element.specs.declared.Head.{Head}
-use Rattle.element.specs.{Lead.headOf, Form.behindHead, Meaning.Elements}
+use Rattle.element.specs.declared.Span.the-variants.{Holds}
+use Rattle.element.specs.{Lead.headOf, Form.behindHead, Form.spanOf, Meaning.Elements}
 use Rattle.field.specs.declared.{Opened.Opened, Extent.Extent}
 use Rattle.field.specs.{Judge.textOf, Judge.partsOf, code.At.leavesFrom, code.At.shallowAt}
 
@@ -62,4 +63,5 @@ partsBy false es = none
 -- r is where the parts of the array at a place stand, if one is there
 pub record Lists (s : List ℕ) (at : ℕ) (r : Extent) : Type 0 where
   pub is : partsOf (shallowAt s at) ≡ partsBy (r .there) (leavesFrom s (r .size) (r .from))
+  pub span : r .there ≡ true → spanOf s at ≡ Holds (r .from) (r .size) false
   pub within : r .from ≤ length s

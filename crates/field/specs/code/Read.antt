@@ -4,8 +4,9 @@ use mathlib.Core.{Bool._&&_, List.List, Option.Option, Option.some}
 use lib.{Dec.leb, Ieee.Float}
 use Rattle.octets.specs.Choice.{either}
 use Rattle.field.specs.declared.{Judged.Judged, Located.Located, Released.Released}
+use Rattle.field.specs.declared.Piece.{Piece, the-variants.Bytes, the-variants.NoBytes}
 use Rattle.field.specs.{Kind.Kind, Kind.Value, Judge.onSome, Judge.realIn, Judge.judge, Cell.judged, Cell.zero64, Cell.origin}
-use Rattle.field.specs.{code.Told.toldOf, code.Told.locatedOf, code.Told.releasedOf, code.At.shallowAt}
+use Rattle.field.specs.{code.Told.toldOf, code.Told.locatedOf, code.Told.releasedOf, code.At.seenAt}
 use Rattle.number.specs.declared.Number.{Number}
 
 -- an invalid field, and a value of 64 bits
@@ -25,7 +26,7 @@ tellOf v = toldOf (judged v)
 
 -- the element at a place, under a kind
 unfoldable pub readAt : Kind → List ℕ → ℕ → Judged
-readAt k s at = tellOf (judge k (shallowAt s at))
+readAt k s at = tellOf (judge k (seenAt k s at))
 
 -- a position and a version
 abbrev pub unlocated : ℕ → Located
@@ -47,3 +48,8 @@ sizedOf lo hi n = either (leb lo n && leb n hi) (λ _. well n) (λ _. badly)
 -- a number as a real
 abbrev pub realValueIn : Number → Option Value
 realValueIn n = onSome (realIn n) (λ x. some (Value.figure x))
+
+-- bytes as an array of them
+abbrev pub pieceTold : Piece → Judged
+pieceTold (Bytes size next) = well size
+pieceTold NoBytes = badly

@@ -46,8 +46,15 @@ unfoldable pub numberParts : List ℕ → List (List ℕ)
 numberParts [] = []
 numberParts (b ∷ d) = bytesOf (wholeTree (pos b)) ∷ numberParts d
 
-abbrev pub octetsParts : List ℕ → List (List ℕ)
-octetsParts d = headBytes (arrayHead (length d)) ∷ numberParts d
+abbrev pub numbersParts : List ℕ → List (List ℕ)
+numbersParts ns = headBytes (arrayHead (length ns)) ∷ numberParts ns
+
+unfoldable pub pieceParts : List (List ℕ) → List (List ℕ)
+pieceParts [] = []
+pieceParts (d ∷ ds) = numbersParts d ++ pieceParts ds
+
+abbrev pub piecesParts : List (List ℕ) → List (List ℕ)
+piecesParts ds = headBytes (arrayHead (length ds)) ∷ pieceParts ds
 
 abbrev pub positionParts : Float → Float → Float → List (List ℕ)
 positionParts x y z = headBytes (arrayHead 3) ∷ (realParts x ++ (realParts y ++ realParts z))

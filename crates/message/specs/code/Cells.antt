@@ -22,12 +22,12 @@ placesBy s (Holds from n false) = unnoted
 unfoldable pub placesOf : List ℕ → List ℕ
 placesOf s = placesBy s (spanOf s 0)
 
--- the command's number by the place of its text: 21 for a text that names none (12), 22 where there is no one text (11)
+-- the command's number by the place of its text: 24 for a text that names none (12), 25 where there is no one text (11)
 abbrev pub numbered : Option (List ℕ) → ℕ
-numbered none = 22
+numbered none = 25
 numbered (some n) = commandOf n
 
 unfoldable pub commandAt : List ℕ → ℕ → ℕ
-commandAt s zero = 22
-commandAt s (suc zero) = 22
+commandAt s zero = 25
+commandAt s (suc zero) = 25
 commandAt s (suc (suc p)) = numbered (textOf (shallowAt s (suc (suc p))))

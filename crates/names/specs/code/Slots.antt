@@ -3,7 +3,7 @@ use Prim.Native.Nat.{ℕ}
 use mathlib.Core.List.{List, [], _∷_}
 use Rattle.names.specs.Names.{bytes, placeIn}
 
--- the keys, each once and by its place here, in the order in which document 01 first names them
+-- the keys, each once and by its place here, in the order in which documents 01 and 02 first name them
 unfoldable pub keys : List (List ℕ)
 keys =
     bytes "command" ∷ bytes "opId" ∷ bytes "version" ∷ bytes "bsEui" ∷ bytes "bidi" ∷ bytes "geoLocation" ∷ bytes "snBsUuid" ∷ bytes "snBsOpId" ∷
@@ -12,8 +12,9 @@ keys =
     bytes "memLoad" ∷ bytes "config" ∷ bytes "epEui" ∷ bytes "rxTime" ∷ bytes "rxDuration" ∷ bytes "packetCnt" ∷ bytes "snr" ∷ bytes "rssi" ∷
     bytes "eqSnr" ∷ bytes "profile" ∷ bytes "sign" ∷ bytes "subpackets" ∷ bytes "nwkSnKey" ∷ bytes "shAddr" ∷ bytes "lastPacketCnt" ∷
     bytes "dualChan" ∷ bytes "repetition" ∷ bytes "wideCarrOff" ∷ bytes "longBlkDist" ∷ bytes "userData" ∷ bytes "format" ∷ bytes "dlOpen" ∷
-    bytes "responseExp" ∷ bytes "dlAck" ∷ bytes "mode" ∷ []
+    bytes "responseExp" ∷ bytes "dlAck" ∷ bytes "mode" ∷ bytes "queId" ∷ bytes "cntDepend" ∷ bytes "prio" ∷ bytes "responsePrio" ∷
+    bytes "dlWindReq" ∷ bytes "expOnly" ∷ []
 
--- the key's slot: 0 to 48, and 49 for a key of no command
+-- the key's slot: 0 to 54, and 55 for a key of no command
 unfoldable pub slotOf : List ℕ → ℕ
 slotOf u = placeIn keys u

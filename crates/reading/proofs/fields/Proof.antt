@@ -4,7 +4,4 @@ use Rattle.reading.proofs.{Answers.ways, fields.Statement.statement}
 use Rattle.reading.proofs.fields.Tie as tie
 
 pub fields-spec : {M : Type 1} → statement M
-fields-spec =
-    tie.close
-    (tie.spec (λ c κs. search needs) (λ c κs. search needs) (λ c κs. search needs) (λ c. search (ways, needs)) (λ c. search (ways, needs))
-    (λ c κs. search needs) (λ c. search (ways, needs)) (λ c. search (ways, needs)))
+fields-spec = tie.close (tie.spec (λ c κs. search (ways, needs)) (λ c κs. search (ways, needs)) (λ c κs. search (ways, needs)) (λ c. search (ways, needs)) (λ c κs. search (ways, needs)) (λ c. search (ways, needs)) (λ c. search (ways, needs)))

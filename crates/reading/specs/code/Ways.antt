@@ -1,25 +1,47 @@
 -- For the private steps of reading. No statement of a public function rests on this page.
 use Prim.Native.Nat.{ℕ}
-use mathlib.Core.List.{List}
-use lib.{Dec.ltb, ListN.length, ListN.take}
-use Rattle.octets.specs.{Choice.either, Bytes.putAt}
+use mathlib.Core.{Path._≡_, List.List}
+use lib.{Dec.ltb, ListN.length, ListN.take, ListN.getD}
+use Rattle.octets.specs.{Choice.either, Bytes.putAt, Pieces.downlinkBytes}
 use Rattle.element.specs.declared.Step.{Step, the-variants.Next, the-variants.Broken}
-use Rattle.field.specs.{Kind.Kind, Judge.judge, code.At.shallowAt, code.At.stringFilled}
-use Rattle.message.specs.{Fields.fieldsOf, code.Cells.cellsAt}
+use Rattle.names.specs.{Names.bytes, code.Slots.slotOf}
+use Rattle.field.specs.{Kind.Kind, Judge.judge, Cell.Cell, code.At.shallowAt, code.At.cellAt, code.At.stringFilled}
+use Rattle.message.specs.{Fields.fieldsOf, Record.wordIn, code.Cells.cellsAt}
 use Rattle.record.specs.declared.Body.{Body}
-use Rattle.record.specs.{Reading.readingBy, Meant.Answered, Meant.refuses, Meant.answerOf, code.Places.readingAt}
+use Rattle.record.specs.{Record.countsIn, Record.stringsIn, Reading.readingBy, Meant.Answered, Meant.refuses, Meant.answerOf, code.Places.readingAt}
 
--- the lent bytes with those of a record at their start: of ulData from its room, of statusRsp from the text at p
-unfoldable pub lentAfter : List ℕ → ℕ → Body → List ℕ → List ℕ → List ℕ
-lentAfter s p (Body.Con x) user d = d
-lentAfter s p (Body.ConRsp x) user d = d
-lentAfter s p (Body.StatusRsp x) user d = stringFilled (judge (Kind.texts 0 (length d)) (shallowAt s p)) d
-lentAfter s p (Body.Det x) user d = d
-lentAfter s p (Body.DetRsp sign) user d = d
-lentAfter s p (Body.AttPrp x) user d = d
-lentAfter s p (Body.DetPrp eui) user d = d
-lentAfter s p (Body.UlData x) user d = putAt d 0 (take (x .«user_len») user)
-lentAfter s p (Body.Bare c) user d = d
+-- the cells of a downlink's counters and data entries
+abbrev pub countersAt : List ℕ → List ℕ → Cell
+countersAt s at = cellAt (Kind.counters 16) s (getD at (slotOf (bytes "packetCnt")) 0)
+
+abbrev pub entriesAt : List ℕ → List ℕ → Cell
+entriesAt s at = cellAt (Kind.pieces 16 245 800) s (getD at (slotOf (bytes "userData")) 0)
+
+-- a downlink has as many data entries as stand there
+abbrev pub Enters : List ℕ → List ℕ → Body → Type 0
+Enters s at (Body.Con x) = Unit {0}
+Enters s at (Body.ConRsp x) = Unit {0}
+Enters s at (Body.StatusRsp x) = Unit {0}
+Enters s at (Body.Det x) = Unit {0}
+Enters s at (Body.DetRsp sign) = Unit {0}
+Enters s at (Body.AttPrp x) = Unit {0}
+Enters s at (Body.DetPrp eui) = Unit {0}
+Enters s at (Body.UlData x) = Unit {0}
+Enters s at (Body.DlDataQue x) = x .entries ≡ wordIn (entriesAt s at)
+Enters s at (Body.Bare c) = Unit {0}
+
+-- the lent bytes with those of a record at their start: of ulData from its room, of statusRsp and dlDataQue from where their fields stand
+unfoldable pub lentAfter : List ℕ → List ℕ → Body → List ℕ → List ℕ → List ℕ
+lentAfter s at (Body.Con x) user d = d
+lentAfter s at (Body.ConRsp x) user d = d
+lentAfter s at (Body.StatusRsp x) user d = stringFilled (judge (Kind.texts 0 (length d)) (shallowAt s (getD at (slotOf (bytes "message")) 0))) d
+lentAfter s at (Body.Det x) user d = d
+lentAfter s at (Body.DetRsp sign) user d = d
+lentAfter s at (Body.AttPrp x) user d = d
+lentAfter s at (Body.DetPrp eui) user d = d
+lentAfter s at (Body.UlData x) user d = putAt d 0 (take (x .«user_len») user)
+lentAfter s at (Body.DlDataQue x) user d = putAt d 0 (downlinkBytes (countsIn (countersAt s at)) (stringsIn (entriesAt s at)))
+lentAfter s at (Body.Bare c) user d = d
 
 -- the fields of a command that we know
 unfoldable pub fieldsBy : List ℕ → List ℕ → ℕ → ℕ → List ℕ → Answered

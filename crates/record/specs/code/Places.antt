@@ -12,8 +12,8 @@ use Rattle.record.specs.Meant.{Answered, refuses, answerOf, lentSize}
 -- 11, 12, then the command's fields
 abbrev pub readingNumbered : List ℕ → List ℕ → ℕ → Reading
 readingNumbered s places c =
-    either (ltb c 21) (λ _. readingBy c (fieldsOf c) (cellsAt (fieldsOf c) s places))
-    (λ _. either (eqb c 21) (λ _. Reading.refused 12) (λ _. Reading.refused 11))
+    either (ltb c 24) (λ _. readingBy c (fieldsOf c) (cellsAt (fieldsOf c) s places))
+    (λ _. either (eqb c 24) (λ _. Reading.refused 12) (λ _. Reading.refused 11))
 
 unfoldable pub readingAt : List ℕ → List ℕ → Reading
 readingAt s places = readingNumbered s places (commandAt s (getD places 0 0))

@@ -3,12 +3,13 @@ use Prim.Native.{Nat.ℕ, Nat._+_, Nat._-_, String.String}
 use mathlib.Core.Bool.{Bool, true, false, not}
 use mathlib.Core.List.{List, [], _∷_, _++_}
 use lib.{Dec.eqb, IntN.ℤ, IntN.pos, Ieee.Float, ListN.length, ListN.take}
-use Rattle.octets.specs.{Choice.either, Bytes.bigBytes, Bytes.littleBytes, code.Put.putNumber}
-use Rattle.forms.specs.code.Put.{mapParts, wholeParts, realParts, markParts, textParts, octetsParts, positionParts, versionParts}
+use Rattle.octets.specs.{Choice.either, Bytes.bigBytes, Bytes.littleBytes, Pieces.countersLent, Pieces.piecesLent, Pieces.areLent, code.Put.putNumber}
+use Rattle.forms.specs.code.Put.{mapParts, wholeParts, realParts, markParts, textParts, numbersParts, piecesParts, positionParts, versionParts}
 use Rattle.names.specs.Names.{bytes, commands, nameAt}
-use Rattle.message.specs.declared.{MaybeId.MaybeId, MaybePosition.MaybePosition, MaybeVersion.MaybeVersion, Signal.Signal}
+use Rattle.message.specs.declared.{MaybeId.MaybeId, MaybeMark.MaybeMark, MaybePosition.MaybePosition, MaybeVersion.MaybeVersion, Signal.Signal}
+use Rattle.saying.specs.Says.{noBits}
 use Rattle.record.specs.{Record.commandIn, Says.sixteenBytes}
-use Rattle.record.specs.declared.{Sixteen.Sixteen, Con.Con, ConRsp.ConRsp, StatusRsp.StatusRsp, Packet.Packet, Body.Body}
+use Rattle.record.specs.declared.{Sixteen.Sixteen, Con.Con, ConRsp.ConRsp, StatusRsp.StatusRsp, Packet.Packet, DlDataQue.DlDataQue, Body.Body}
 
 -- a text of fewer than 32 bytes as it is written
 abbrev pub shortText : List ℕ → List ℕ
@@ -59,7 +60,7 @@ stationParts x =
 unfoldable pub resumeParts : Sixteen → MaybeId → MaybeId → List (List ℕ)
 resumeParts uuid station centre =
     chained
-    (pairPart true (text "snBsUuid") (octetsParts (sixteenBytes uuid)) ∷
+    (pairPart true (text "snBsUuid") (numbersParts (sixteenBytes uuid)) ∷
     idPart (text "snBsOpId") station ∷
     idPart (text "snScOpId") centre ∷
     [])
@@ -71,7 +72,7 @@ centreParts x =
     (versionPart (text "version") (x .version) ∷
     pairPart true (text "scEui") (wholeParts (pos (x .«sc_eui»))) ∷
     pairPart true (text "snResume") (markParts (x .«sn_resume»)) ∷
-    pairPart true (text "snScUuid") (octetsParts (sixteenBytes (x .«sn_sc_uuid»))) ∷
+    pairPart true (text "snScUuid") (numbersParts (sixteenBytes (x .«sn_sc_uuid»))) ∷
     [])
 
 -- statusRsp
@@ -144,7 +145,7 @@ meterParts eui bidi = chained (pairPart true (text "epEui") (wholeParts (pos eui
 unfoldable pub attachmentParts : Sixteen → ℕ → ℕ → List (List ℕ)
 attachmentParts key short counter =
     chained
-    (pairPart true (text "nwkSnKey") (octetsParts (sixteenBytes key)) ∷
+    (pairPart true (text "nwkSnKey") (numbersParts (sixteenBytes key)) ∷
     pairPart true (text "shAddr") (wholeParts (pos short)) ∷
     pairPart true (text "lastPacketCnt") (wholeParts (pos counter)) ∷
     [])
@@ -158,6 +159,54 @@ modesParts dual repeated wide long =
     pairPart true (text "longBlkDist") (markParts long) ∷
     [])
 
+-- dlDataQue, where its priority is written or not
+abbrev pub downlinkCount : DlDataQue → Bool → ℕ
+downlinkCount x prior =
+    pairsPresent (pairsPresent 6 (x .«cnt_depend») (not (eqb (x .format) 0)) prior (x .«response_exp» .here) (x .«response_prio» .here))
+    (x .«dl_wind_req» .here) (x .«exp_only» .here) false false false
+
+unfoldable pub queueParts : DlDataQue → List ℕ → List (List ℕ)
+queueParts x d =
+    chained
+    (pairPart true (text "epEui") (wholeParts (pos (x .«ep_eui»))) ∷
+    pairPart true (text "queId") (wholeParts (pos (x .«que_id»))) ∷
+    pairPart true (text "cntDepend") (markParts (x .«cnt_depend»)) ∷
+    pairPart (x .«cnt_depend») (text "packetCnt") (numbersParts (countersLent (x .entries) d)) ∷
+    pairPart true (text "userData") (piecesParts (piecesLent (x .entries) d)) ∷
+    [])
+
+unfoldable pub weightParts : ℕ → Bool → Float → List (List ℕ)
+weightParts format prior prio =
+    chained
+    (pairPart (not (eqb format 0)) (text "format") (wholeParts (pos format)) ∷
+    pairPart prior (text "prio") (realParts prio) ∷
+    [])
+
+abbrev pub markPart : List ℕ → MaybeMark → List (List ℕ)
+markPart key w = pairPart (w .here) key (markParts (w .value))
+
+unfoldable pub wishesParts : DlDataQue → List (List ℕ)
+wishesParts x =
+    chained
+    (markPart (text "responseExp") (x .«response_exp») ∷
+    markPart (text "responsePrio") (x .«response_prio») ∷
+    markPart (text "dlWindReq") (x .«dl_wind_req») ∷
+    markPart (text "expOnly") (x .«exp_only») ∷
+    [])
+
+-- what is to be written of the lent bytes is there; where fewer are lent than another record says, fewer are written
+abbrev pub hasData : Body → List ℕ → Bool
+hasData (Body.Con x) d = true
+hasData (Body.ConRsp x) d = true
+hasData (Body.StatusRsp x) d = true
+hasData (Body.Det x) d = true
+hasData (Body.DetRsp sign) d = true
+hasData (Body.AttPrp x) d = true
+hasData (Body.DetPrp eui) d = true
+hasData (Body.UlData x) d = true
+hasData (Body.DlDataQue x) d = areLent (x .entries) d
+hasData (Body.Bare c) d = true
+
 -- how many pairs a message has
 unfoldable pub pairsIn : Body → ℕ
 pairsIn (Body.Con x) = pairsPresent 5 (x .version .here) (x .«geo_location» .here) (x .«sn_bs_op_id» .here) (x .«sn_sc_op_id» .here) false
@@ -168,6 +217,7 @@ pairsIn (Body.DetRsp sign) = 3
 pairsIn (Body.AttPrp x) = 11
 pairsIn (Body.DetPrp eui) = 3
 pairsIn (Body.UlData x) = packetCount 11 (x .packet) (not (eqb (x .format) 0))
+pairsIn (Body.DlDataQue x) = downlinkCount x (not (noBits (x .prio)))
 pairsIn (Body.Bare c) = 2
 
 -- the fields behind opId in the groups in which they are written, with the bytes d that are lent
@@ -175,8 +225,8 @@ unfoldable pub groupsIn : Body → List ℕ → List (List (List ℕ))
 groupsIn (Body.Con x) d = stationParts x ∷ resumeParts (x .«sn_bs_uuid») (x .«sn_bs_op_id») (x .«sn_sc_op_id») ∷ []
 groupsIn (Body.ConRsp x) d = centreParts x ∷ []
 groupsIn (Body.StatusRsp x) d = reportParts x d ∷ []
-groupsIn (Body.Det x) d = packetParts (x .packet) ∷ pairPart true (text "sign") (octetsParts (bigBytes 4 (x .sign))) ∷ []
-groupsIn (Body.DetRsp sign) d = pairPart true (text "sign") (octetsParts (bigBytes 4 sign)) ∷ []
+groupsIn (Body.Det x) d = packetParts (x .packet) ∷ pairPart true (text "sign") (numbersParts (bigBytes 4 (x .sign))) ∷ []
+groupsIn (Body.DetRsp sign) d = pairPart true (text "sign") (numbersParts (bigBytes 4 sign)) ∷ []
 groupsIn (Body.AttPrp x) d =
     meterParts (x .«ep_eui») (x .bidi) ∷
     attachmentParts (x .«nwk_sn_key») (x .«sh_addr») (x .«last_packet_cnt») ∷
@@ -185,9 +235,10 @@ groupsIn (Body.AttPrp x) d =
 groupsIn (Body.DetPrp eui) d = pairPart true (text "epEui") (wholeParts (pos eui)) ∷ []
 groupsIn (Body.UlData x) d =
     packetParts (x .packet) ∷
-    pairPart true (text "userData") (octetsParts (take (x .«user_len») d)) ∷
+    pairPart true (text "userData") (numbersParts (take (x .«user_len») d)) ∷
     answerParts (x .format) (x .«dl_open») (x .«response_exp») (x .«dl_ack») ∷
     []
+groupsIn (Body.DlDataQue x) d = queueParts x d ∷ weightParts (x .format) (not (noBits (x .prio))) (x .prio) ∷ wishesParts x ∷ []
 groupsIn (Body.Bare c) d = []
 
 unfoldable pub bodyParts : ℤ → Body → List ℕ → List (List ℕ)

@@ -6,6 +6,5 @@ use Rattle.field.proofs.into.array_into.Tie as tie
 pub array-into-spec : {M : Type 1} → statement M
 array-into-spec =
     tie.close
-    (tie.spec (λ c κs. search (array-intos, needs)) (λ c κs. search (array-intos, needs)) (λ c. search (array-intos, needs))
-    (λ c κs. search (array-intos, needs)) (λ c. search (array-intos, needs)) (λ c. search (array-intos, needs))
-    (λ c κs. search (array-intos, needs)) (λ c. search (array-intos, needs)))
+    (tie.spec (λ c κs. search (array-intos, needs)) (λ c. search (array-intos, needs)) (λ c κs. search (array-intos, needs))
+    (λ c. search (array-intos, needs)) (λ c. search (array-intos, needs)) (λ c. search (array-intos, needs)) (λ c. search (array-intos, needs)))

@@ -4,9 +4,6 @@ use borrow.Author.Needs.{needs}
 use Rattle.layout.proofs.put.put_att_prp.Statement.{statement}
 use Rattle.layout.proofs.put.put_att_prp.Tie as tie
 
-same-length : tie.Need-same-length
-same-length c = cc
-
 returns : tie.Need-returns
 unfolding laid attPrpLies
 returns c = cc
@@ -14,4 +11,4 @@ returns c = cc
 pub put-att-prp-spec : {M : Type 1} → statement M
 put-att-prp-spec =
     tie.close
-    (tie.spec (search needs) (search needs) (search needs) (search needs) (search needs) (search needs) (search needs) same-length returns)
+    (tie.spec (search needs) (search needs) (search needs) (search needs) (search needs) (search needs) (search needs) (λ c. search needs) returns)

@@ -4,12 +4,9 @@ use borrow.Author.Needs.{needs}
 use Rattle.layout.proofs.put.put_con_rsp.Statement.{statement}
 use Rattle.layout.proofs.put.put_con_rsp.Tie as tie
 
-same-length : tie.Need-same-length
-same-length c = cc
-
 returns : tie.Need-returns
 unfolding laid conRspLies
 returns c = cc
 
 pub put-con-rsp-spec : {M : Type 1} → statement M
-put-con-rsp-spec = tie.close (tie.spec (search needs) (search needs) (search needs) (search needs) same-length returns)
+put-con-rsp-spec = tie.close (tie.spec (search needs) (search needs) (search needs) (search needs) (λ c. search needs) returns)

@@ -4,12 +4,9 @@ use borrow.Author.Needs.{needs}
 use Rattle.layout.proofs.put.put_det.Statement.{statement}
 use Rattle.layout.proofs.put.put_det.Tie as tie
 
-same-length : tie.Need-same-length
-same-length c = cc
-
 returns : tie.Need-returns
 unfolding laid packetLies detLies
 returns c = cc
 
 pub put-det-spec : {M : Type 1} → statement M
-put-det-spec = tie.close (tie.spec (search needs) (search needs) same-length returns)
+put-det-spec = tie.close (tie.spec (search needs) (search needs) (λ c. search needs) returns)

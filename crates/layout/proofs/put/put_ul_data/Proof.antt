@@ -4,12 +4,9 @@ use borrow.Author.Needs.{needs}
 use Rattle.layout.proofs.put.put_ul_data.Statement.{statement}
 use Rattle.layout.proofs.put.put_ul_data.Tie as tie
 
-same-length : tie.Need-same-length
-same-length c = cc
-
 returns : tie.Need-returns
 unfolding laid packetLies ulDataLies
 returns c = cc
 
 pub put-ul-data-spec : {M : Type 1} → statement M
-put-ul-data-spec = tie.close (tie.spec (search needs) (search needs) (search needs) (search needs) same-length returns)
+put-ul-data-spec = tie.close (tie.spec (search needs) (search needs) (search needs) (search needs) (λ c. search needs) returns)

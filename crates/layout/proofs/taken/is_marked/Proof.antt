@@ -6,6 +6,7 @@ use Rattle.layout.proofs.taken.is_marked.Tie as tie
 pub is-marked-spec : {M : Type 1} → statement M
 is-marked-spec =
     tie.close
-    (tie.spec (search needs) (search needs) (search needs) (search needs) (search needs) (search needs) (search needs) (λ c. search (marked, needs))
+    (tie.spec (search needs) (search needs) (search needs) (search needs) (search needs) (search needs) (search needs) (search needs)
     (λ c. search (marked, needs)) (λ c. search (marked, needs)) (λ c. search (marked, needs)) (λ c. search (marked, needs))
-    (λ c. search (marked, needs)) (λ c. search (marked, needs)) (λ c. search (marked, needs)) (λ c. search (marked, needs)))
+    (λ c. search (marked, needs)) (λ c. search (marked, needs)) (λ c. search (marked, needs)) (λ c. search (marked, needs))
+    (λ c. search (marked, needs)) (λ c. search (marked, needs)))

@@ -1,4 +1,4 @@
--- Each name stands in a row of ten bytes behind its length; a number of no command writes nothing. Assumes nothing.
+-- Each name stands in a row of thirteen bytes behind its length; a number of no command writes nothing. Assumes nothing.
 use borrow.Author.Needs.{needs}
 use Rattle.names.specs.Names.{commands}
 use Rattle.lines.proofs.Texts.{row-fits, row-end-fits, row-end, row-put, no-row-put}

@@ -25,4 +25,6 @@ nine-spec =
     (λ c. search arms)
     (λ c. search arms)
     (λ c. search arms)
+    (λ c. search arms)
+    (λ c. search arms)
     (λ c. search arms))

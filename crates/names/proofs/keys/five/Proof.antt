@@ -21,4 +21,6 @@ five-spec =
     (λ c. search arms)
     (λ c. search arms)
     (λ c. search arms)
+    (λ c. search arms)
+    (λ c. search arms)
     (λ c. search arms))

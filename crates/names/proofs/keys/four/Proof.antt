@@ -19,4 +19,5 @@ four-spec =
     (λ c. search arms)
     (λ c. search arms)
     (λ c. search arms)
+    (λ c. search arms)
     (λ c. search arms))

@@ -15,4 +15,8 @@ nine-spec =
     (λ c. search arms)
     (λ c. search arms)
     (λ c. search arms)
+    (λ c. search arms)
+    (λ c. search arms)
+    (λ c. search arms)
+    (λ c. search arms)
     (λ c. search arms))

@@ -21,4 +21,6 @@ seven-spec =
     (λ c. search arms)
     (λ c. search arms)
     (λ c. search arms)
+    (λ c. search arms)
+    (λ c. search arms)
     (λ c. search arms))

@@ -6,7 +6,7 @@ use Rattle.steps.proofs.connect.anew.Tie as tie
 pub anew-spec : {M : Type 1} → statement M
 anew-spec =
     tie.close
-    (tie.spec (λ c κs. search (openings, replies, long, needs)) (λ c κs. search needs) (λ c. search needs)
-    (λ c κs. search (openings, replies, long, needs)) (λ c. search needs) (λ c κs. search needs) (λ c. search needs)
-    (λ c κs. search (openings, replies, long, needs)) (λ c κs. search needs) (λ c. search needs) (λ c. search (openings, replies, long, needs))
-    (λ c. search needs) (λ c. search needs) (λ c. search (openings, replies, long, needs)))
+    (tie.spec (λ c κs. search (openings, replies, long, needs)) (λ c κs. search needs) (λ c κs. search (openings, replies, long, needs))
+    (λ c. search needs) (λ c κs. search needs) (λ c. search needs) (λ c κs. search (openings, replies, long, needs)) (λ c κs. search needs)
+    (λ c. search needs) (λ c. search (openings, replies, long, needs)) (λ c. search needs) (λ c. search needs)
+    (λ c. search (openings, replies, long, needs)))

@@ -10,6 +10,7 @@ in-waiting-spec =
     (λ c. search (openings, needs)) (λ c κs. search needs) (λ c. search (openings, needs)) (λ c κs. search needs)
     (λ c. search (openings, needs)) (λ c κs. search needs) (λ c. search (openings, needs)) (λ c κs. search needs)
     (λ c. search (openings, needs)) (λ c κs. search needs) (λ c. search (openings, needs)) (λ c κs. search needs)
-    (λ c. search (openings, needs)) (λ c κs. search needs) (λ c. search needs) (λ c. search needs) (λ c. search (openings, needs))
+    (λ c. search (openings, needs)) (λ c κs. search needs) (λ c. search (openings, needs)) (λ c κs. search needs) (λ c. search needs)
+    (λ c. search needs) (λ c. search (openings, needs)) (λ c. search (openings, needs))
     (λ c. search (openings, needs)) (λ c. search (openings, needs)) (λ c. search (openings, needs)) (λ c. search (openings, needs))
     (λ c. search (openings, needs)) (λ c. search (openings, needs)) (λ c. search (openings, needs)) (λ c. search (openings, needs)))

@@ -7,6 +7,6 @@ pub answers-spec : {M : Type 1} → statement M
 answers-spec =
     tie.close
     (tie.spec (λ c κs. search (branches, replies, long, needs)) (λ c κs. search needs) (λ c. search needs) (λ c. search (branches, replies, long, needs))
-    (λ c κs. search needs) (λ c. search needs) (λ c κs. search (branches, replies, long, needs)) (λ c. search needs) (λ c κs. search needs)
-    (λ c. search needs) (λ c κs. search (branches, replies, long, needs)) (λ c κs. search needs) (λ c. search needs) (λ c. search needs)
+    (λ c κs. search needs) (λ c κs. search (branches, replies, long, needs)) (λ c. search needs) (λ c κs. search needs) (λ c. search needs)
+    (λ c κs. search (branches, replies, long, needs)) (λ c κs. search needs) (λ c. search needs) (λ c. search needs)
     (λ c. search (branches, replies, long, needs)) (λ c. search needs) (λ c. search needs) (λ c. search (branches, replies, long, needs)))

@@ -7,10 +7,9 @@ use Rattle.steps.proofs.operate.in_open.Tie as tie
 pub in-open-spec : {M : Type 1} → statement M
 in-open-spec =
     tie.close
-    (tie.spec (λ c κs. search (open-none, needs)) (λ c κs. search (open-none, needs)) (λ c κs. search (open-none, needs))
-    (λ c κs. search (open-none, needs)) (λ c κs. search (open-none, needs)) (λ c κs. search (open-none, needs))
-    (λ c κs. search (open-none, needs)) (λ c κs. search (open-none, needs)) (λ c κs. search (open-none, needs))
-    (λ c κs. search (open-none, needs)) (λ c κs. search needs) (λ c. search needs) (λ c. search needs)
+    (tie.spec (λ c κs. search needs) (λ c κs. search needs) (λ c κs. search needs) (λ c κs. search needs) (λ c κs. search needs)
+    (λ c κs. search needs) (λ c κs. search needs) (λ c κs. search needs) (λ c κs. search needs) (λ c κs. search needs)
+    (λ c κs. search needs) (λ c κs. search needs) (λ c. search needs) (λ c. search needs)
     (λ c. search (open-start, known .ping, needs)) (λ c. search needs) (λ c. search needs) (λ c. search (open-start, known .det, needs))
     (λ c. search needs) (λ c. search needs) (λ c. search (open-start, known .ulData, needs)) (λ c. search needs)
     (λ c. search (open-complete, known .pingCmp, needs)) (λ c. search needs) (λ c. search (open-complete, known .detCmp, needs))
@@ -18,4 +17,5 @@ in-open-spec =
     (λ c. search (open-answer, known .pingRsp, needs)) (λ c. search needs) (λ c. search needs)
     (λ c. search (open-answer, known .statusRsp, needs)) (λ c. search needs) (λ c. search needs)
     (λ c. search (open-answer, known .attPrpRsp, needs)) (λ c. search needs) (λ c. search needs)
-    (λ c. search (open-answer, known .detPrpRsp, needs)) (λ c. search (open-none, needs)))
+    (λ c. search (open-answer, known .detPrpRsp, needs)) (λ c. search needs) (λ c. search needs)
+    (λ c. search (open-answer, known .dlDataQueRsp, needs)) (λ c. search (open-none, needs)))

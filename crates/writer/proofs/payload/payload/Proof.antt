@@ -9,6 +9,7 @@ payload-spec =
     (tie.spec (λ c. search needs) (λ c κs. search needs) (λ c. search needs) (λ c κs. search needs) (λ c. search needs) (λ c κs. search needs)
     (λ c. search needs) (λ c κs. search needs) (λ c. search needs) (λ c κs. search needs) (λ c. search needs) (λ c κs. search needs)
     (λ c. search needs) (λ c κs. search needs) (λ c. search needs) (λ c κs. search needs) (λ c. search needs) (λ c κs. search variants)
+    (λ c. search needs) (λ c κs. search variants) (λ c. search needs) (λ c. search variants) (λ c. search needs) (λ c. search variants)
     (λ c. search needs) (λ c. search variants) (λ c. search needs) (λ c. search variants) (λ c. search needs) (λ c. search variants)
     (λ c. search needs) (λ c. search variants) (λ c. search needs) (λ c. search variants) (λ c. search needs) (λ c. search variants)
-    (λ c. search needs) (λ c. search variants) (λ c. search needs) (λ c. search variants) (λ c. search needs) (λ c. search variants))
+    (λ c. search needs) (λ c. search variants) (λ c. search needs) (λ c. search variants))

@@ -1,0 +1,7 @@
+pub mod Entry
+pub mod Queue
+pub mod Store
+pub mod Calls
+pub mod Run
+pub mod HostRun
+pub mod code
