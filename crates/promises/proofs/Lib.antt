@@ -1,4 +1,6 @@
 pub mod Counted
+pub mod SaidOfKeys
+pub mod Defaults
 pub mod Steady
 pub mod Tested
 pub mod Moves
