@@ -12,7 +12,7 @@ enum way { WAY_FULL, WAY_SHORT, WAY_EMPTY };
 
 /* Each prepares a case and answers the function that runs it; NULL if the name is another's. */
 typedef bench_rounds *bench_case(const char *what, const char *name, unsigned size, enum way way);
-bench_case reads_case, writes_case, tables_case, sessions_case, streams_case, queues_case;
+bench_case reads_case, writes_case, tables_case, sessions_case, streams_case, queues_case, traces_case;
 
 /* The calls by their shapes, so that an empty one can stand in for them. */
 typedef uint64_t call_read(const uint8_t *payload, size_t payload_len, uint8_t *message, size_t message_len, uint8_t *data,

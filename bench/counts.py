@@ -30,6 +30,10 @@ EMPTY = {
     "choose": ("choose", "least", 1),
     "choose_c": ("choose", "least", 1),
     "sound": ("sound", "least", 0),
+    "record": ("record", "ping", 0),
+    "record_c": ("record", "ping", 0),
+    "recorded": ("recorded", "ping", 0),
+    "recorded_c": ("recorded", "ping", 0),
     "frame": ("frame", "rows", 1),
     "stream": ("stream", "rows", 1),
 }

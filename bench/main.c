@@ -24,7 +24,7 @@ static enum way way_of(const char *word)
 
 static bench_rounds *prepared(char **words, enum way way)
 {
-    static bench_case *const kinds[] = { reads_case, writes_case, tables_case, sessions_case, streams_case, queues_case };
+    static bench_case *const kinds[] = { reads_case, writes_case, tables_case, sessions_case, streams_case, queues_case, traces_case };
     bench_rounds *run = NULL;
     for (size_t i = 0; !run && i < sizeof kinds / sizeof *kinds; i++)
         run = kinds[i](words[1], words[2], (unsigned)strtoul(words[3], NULL, 10), way);

@@ -46,6 +46,11 @@ QUEUES = [
     ("chz_sound, one entry of 20 bytes each", "sound", "least", (0, 32)),
     ("chz_sound, 16 entries of 50 bytes each", "sound", "great", (32,)),
 ]
+TRACES = [
+    ("ping", "ping", 0),
+    ("ulData with 40 bytes", "ulData", 40),
+    ("ulData with 245 bytes", "ulData", 245),
+]
 STACKS = [
     FRAME,
     ("chz_form, con", "form", "con", 0),
@@ -66,6 +71,8 @@ STACKS = [
     ("chz_choose, 32 wait with 16 counters each", "choose", "great", 32),
     ("chz_sound, 32 wait with 16 entries of 50 bytes each", "sound", "great", 32),
     ("chz_uplink, 1,000 rows", "uplink", "rows", 1000),
+    ("chz_record, ulData with 245 bytes", "record", "ulData", 245),
+    ("chz_recorded, ulData with 245 bytes", "recorded", "ulData", 245),
 ]
 HAVE_ROOM = ("write", "arrive", "begin")
 GROWTH = [
@@ -135,6 +142,18 @@ def queues(counts):
     table(["call", "entries that wait", "library", "plain C"], rows)
 
 
+def traces(counts):
+    print("### Traces\n")
+    rows = []
+    for what in ("record", "recorded"):
+        for label, name, size in TRACES:
+            rows.append([f"chz_{what}, {label}", cost(counts, what, name, size), cost(counts, what + "_c", name, size)])
+    table(["call", "library", "plain C"], rows)
+    whole, records = counts["replay", "day", 0, "full"]
+    print(f"The program `replay` over the day in tests/replay/day: {whole:,} instructions for {records} records, {round(whole / records):,} a record, "
+          "what is read and printed included; a run over a trace without records is taken off.\n")
+
+
 def cost_c(counts, what, name, size):
     return None if what == "sound" else cost(counts, what + "_c", name, size)
 
@@ -184,7 +203,7 @@ def empties(counts):
     print("Taken off, the round with an empty call of the same shape: " + ", ".join(
         f"{label} {empty(counts, what)}" for label, what in
         [("reading", "read"), ("writing", "write"), ("crediting", "uplink"), ("chz_arrive", "arrive"), ("chz_begin", "begin"),
-         ("chz_lost", "lost"), ("chz_add", "add"), ("chz_cancel", "cancel"), ("chz_choose", "choose"), ("chz_sound", "sound")]) +
+         ("chz_lost", "lost"), ("chz_add", "add"), ("chz_cancel", "cancel"), ("chz_choose", "choose"), ("chz_sound", "sound"), ("chz_record", "record"), ("chz_recorded", "recorded")]) +
         f"; the stream's 16 frames together {empty(counts, 'stream')}.\n")
 
 
@@ -194,7 +213,7 @@ def main():
         for line in lines:
             print("- " + line.rstrip())
     print()
-    for part in (reads, writes, tables, sessions, queues, growth, empties, stacks):
+    for part in (reads, writes, tables, sessions, queues, traces, growth, empties, stacks):
         part(counts)
 
 

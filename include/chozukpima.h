@@ -5,9 +5,9 @@
  * read, such as uuid and sign. Every call may be handed any contents (of a queue, see chz_sound): what is bad is refused by its
  * number, and a refused call changes no lent byte. NULL with length 0 is a buffer of no bytes and never crashes. It answers 1 in
  * chz_frame and 3 in chz_form; 15 for a session, a message, a uuid, a sign or a queue; in chz_read 15 for data, and 3 for a payload
- * where the others are good. Data that a message does not say may be NULL in chz_write, chz_arrive and chz_begin. A room of no bytes is
- * 20 where a frame is to be written. A table of five such columns has no rows, so chz_find, chz_withdraw and chz_uplink answer 21 and
- * chz_enrol 23.
+ * where the others are good; 33 in chz_trace_open and chz_recorded, and 35 for chz_record's frame. Data that a message does not say may
+ * be NULL in chz_write, chz_arrive and chz_begin. A room of no bytes is 20 where something is to be written. A table of five such
+ * columns has no rows, so chz_find, chz_withdraw and chz_uplink answer 21 and chz_enrol 23.
  *
  * No answer depends on the floating point mode (MXCSR) that the host runs in. Nothing is allocated. 6 kB of stack are enough for
  * every call; measured: chz_begin 3.1 kB, chz_write 3.0, chz_read 1.5, chz_arrive 1.2, the others below 1. */
@@ -57,7 +57,12 @@ enum chz_refusal {
     CHZ_QUEUE_ID_THERE = 27,
     CHZ_QUEUE_FULL = 28,
     CHZ_NO_QUEUE_ID = 29,
-    CHZ_NOTHING_SUITABLE = 30
+    CHZ_NOTHING_SUITABLE = 30,
+    CHZ_NOT_A_TRACE = 31,
+    CHZ_NOT_SHORTEST = 32,
+    CHZ_INPUT_ENDS = 33,
+    CHZ_TIME_SUM = 34,
+    CHZ_NOT_ONE_FRAME = 35
 };
 
 /* The commands by number, as chz_message.command has them. */
@@ -126,6 +131,7 @@ static inline const char *chz_refusal_name(unsigned refusal) {
         "field missing", "invalid value", "version not 1.0", "does not fit the state", "operation ID out of order",
         "sixteen operations open", "room too short", "no such meter", "already enrolled", "no free row", "columns of unequal length",
         "station number over 63", "stale counter", "queue ID already there", "queue full", "no such queue ID", "nothing suitable",
+        "not a trace", "number not in its shortest form", "input ends inside", "time past 2^64 - 1", "not one whole frame",
     };
     return refusal < sizeof names / sizeof *names ? names[refusal] : "unknown";
 }
@@ -477,6 +483,37 @@ uint64_t chz_withdraw(uint8_t *used, size_t used_len, const uint64_t *eui, size_
 uint64_t chz_uplink(const uint8_t *used, size_t used_len, const uint64_t *eui, size_t eui_len, const uint16_t *sh_addr,
                     size_t sh_addr_len, uint32_t *last, size_t last_len, uint64_t *heard, size_t heard_len, uint64_t meter,
                     uint32_t counter, uint64_t station);
+
+/* A trace: what arrived on a day, for the program replay, which plays it through sessions and a table again. It starts with the number
+ * 1; then records follow, each of them the nanoseconds since the record before it, the station's number, the length of a frame, and that
+ * whole frame. Numbers are in groups of seven bits, lowest first, in the shortest form. HOST.md shows where in the loop a host records. */
+
+/* The longest record: a room of so many bytes is enough for each. */
+#define CHZ_RECORD 4121
+
+/* The start of a trace, at the start of the room: the value is its length, 1. Refusal 20. */
+uint64_t chz_trace_start(uint8_t *room, size_t room_len);
+
+/* A record at the start of the room: the value is its length. *time is the sum of all gaps before it, 0 before the first record; gap is
+ * added to it where the call is not refused. frame is a whole frame, as chz_frame tells it. Refusals 34 (the sum passes 2^64 - 1),
+ * 25, 35 (not exactly one whole frame), 20. time is never NULL. */
+uint64_t chz_record(uint64_t *time, uint64_t gap, uint64_t station, const uint8_t *frame, size_t frame_len, uint8_t *room,
+                    size_t room_len);
+
+/* The start of a trace in bytes: the value is how many it takes. Refusals 33 (the bytes end inside a number: wait for more, if more
+ * may come), 32 (not the shortest form, or past 2^64 - 1), 31 (not the number 1). */
+uint64_t chz_trace_open(const uint8_t *bytes, size_t bytes_len);
+
+/* The record at the start of the bytes: its length, its frame's length and its station (chz_recorded_len, chz_recorded_frame_len,
+ * chz_recorded_station); the frame is its last bytes. Its gap is added to *time, which is never NULL. Refusals from left to right: the
+ * gap's 33 and 32, 34, the station's 33 and 32, 25, the length's 33 and 32, 35 (under 13 or over CHZ_INPUT), 33 (the bytes end inside
+ * the frame), 35 (not exactly one whole frame). */
+uint64_t chz_recorded(uint64_t *time, const uint8_t *bytes, size_t bytes_len);
+
+/* The three parts of the value in chz_recorded's answer. */
+static inline size_t chz_recorded_len(uint64_t answer) { return (size_t)(chz_value(answer) & 0xFFFF); }
+static inline size_t chz_recorded_frame_len(uint64_t answer) { return (size_t)(chz_value(answer) >> 16 & 0xFFFF); }
+static inline unsigned chz_recorded_station(uint64_t answer) { return (unsigned)(chz_value(answer) >> 32); }
 
 /* The same calls on the structs, for hosts that hold these. */
 typedef struct chz_table {

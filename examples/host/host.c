@@ -1,5 +1,5 @@
-/* The loop that a host writes around the library: bytes in, frames, messages, session steps, credited readings, downlinks; all that
- * changed is stored; then replies out. */
+/* The loop that a host writes around the library: bytes in, frames, which are recorded, messages, session steps, credited readings,
+ * downlinks; all that changed is stored; then replies out. */
 #include <inttypes.h>
 #include <stdio.h>
 #include <string.h>
@@ -14,6 +14,13 @@ static uint32_t meter_last[HOST_METERS];
 chz_table host_meters = { meter_used, meter_eui, meter_sh_addr, meter_last, meter_heard, HOST_METERS };
 
 static const uint64_t centre_eui = 0x70B3D5FFFE000001;
+
+/* The trace of what arrived since the host started. */
+static struct {
+    enum { NOT_BEGUN, RECORDING, ENDED } state;
+    uint64_t sum;  /* of all gaps so far */
+    uint64_t last; /* the clock at the last record */
+} trace;
 
 /* The operations that a station starts, with what answers and what completes them. */
 static const struct operation { uint8_t start, rsp, cmp; } operations[] = {
@@ -44,6 +51,7 @@ static void load_queue(unsigned number)
 void host_start(void)
 {
     memset(host_stations, 0, sizeof host_stations);
+    memset(&trace, 0, sizeof trace);
     for (size_t row = 0; row < HOST_METERS; row++) outside_load_row(row);
     for (unsigned number = 0; number < HOST_STATIONS; number++) {
         outside_load_session(number, &host_stations[number].session);
@@ -335,6 +343,54 @@ static bool take_message(unsigned number, const uint8_t *payload, size_t len)
     return s->session.state != CHZ_WAITING; /* it waits if one of the last two had to close */
 }
 
+static size_t put_big(uint8_t *at, uint64_t number, size_t len)
+{
+    for (size_t i = len; i-- > 0; number >>= 8) at[i] = (uint8_t)number;
+    return len;
+}
+
+/* The meters that a replay starts with: EUI, short address and last counter credited, big endian. */
+static size_t list_enrolments(uint8_t *into)
+{
+    const chz_table *t = &host_meters;
+    size_t len = 0;
+    for (size_t row = 0; row < t->rows; row++) {
+        if (!t->used[row]) continue;
+        len += put_big(into + len, t->eui[row], 8);
+        len += put_big(into + len, t->sh_addr[row], 2);
+        len += put_big(into + len, t->last[row], 4);
+    }
+    return len;
+}
+
+/* With the first frame since the host started: no station has connected yet, and the meters are enrolled. */
+static bool begin_trace(void)
+{
+    uint8_t enrolments[HOST_METERS * HOST_ENROLMENT], room[1];
+    uint64_t answer = chz_trace_start(room, sizeof room);
+    trace.last = outside_clock();
+    return outside_begin_trace(enrolments, list_enrolments(enrolments)) && outside_record(room, chz_value(answer));
+}
+
+static bool add_record(unsigned number, const uint8_t *frame, size_t len)
+{
+    uint8_t room[CHZ_RECORD];
+    uint64_t now = outside_clock();
+    uint64_t answer = chz_record(&trace.sum, now - trace.last, number, frame, len, room, sizeof room);
+    trace.last = now;
+    return !chz_refused(answer) && outside_record(room, chz_value(answer));
+}
+
+/* A whole frame, before it is read: one that is refused has arrived, too. If it can't be written, the trace ends here, since with a gap
+ * it would tell of another day; the frame itself is taken like any other. */
+static void record(unsigned number, const uint8_t *frame, size_t len)
+{
+    if (trace.state == ENDED) return;
+    bool begun = trace.state == RECORDING || begin_trace();
+    trace.state = begun && add_record(number, frame, len) ? RECORDING : ENDED;
+    if (trace.state == ENDED) printf("%u: not recorded, the trace ends here\n", number);
+}
+
 /* All whole frames of the input; the rest moves to its start. False: the connection is closed. */
 static bool take_frames(unsigned number)
 {
@@ -343,6 +399,7 @@ static bool take_frames(unsigned number)
     uint64_t answer = chz_frame(s->input, s->input_len);
     while (!chz_refused(answer)) {
         size_t size = chz_value(answer);
+        record(number, s->input + at, size);
         if (!take_message(number, s->input + at + CHZ_FRAME_HEAD, size - CHZ_FRAME_HEAD)) return false;
         at += size;
         answer = chz_frame(s->input + at, s->input_len - at);

@@ -1,4 +1,4 @@
-/* A host around the library: what replay.c, or a program with real connections and a database, calls and what it provides. */
+/* A host around the library: what player.c, or a program with real connections and a database, calls and what it provides. */
 #ifndef HOST_H
 #define HOST_H
 
@@ -8,7 +8,8 @@
 
 enum {
     HOST_STATIONS = 64,
-    HOST_METERS = 8 /* a real host has 38,000; the calls are the same */
+    HOST_METERS = 8, /* a real host has 38,000; the calls are the same */
+    HOST_ENROLMENT = 14 /* bytes of a meter in the file of enrolments that goes with a trace */
 };
 
 /* One base station. Its place in the array is its station number for good: the table's heard column has a bit for it. */
@@ -56,7 +57,7 @@ struct change {
     const chz_message *message;
 };
 
-/* What the loop needs from around it. replay.c has a recording for the connections and plain memory for the store. */
+/* What the loop needs from around it. player.c has a written conversation for the connections and plain memory for the store. */
 bool outside_store(const struct change *change); /* true: it is stored, and outlives a crash */
 void outside_load_session(unsigned number, chz_session *session);
 void outside_load_row(size_t row); /* into host_meters */
@@ -66,5 +67,10 @@ void outside_uuid(uint8_t uuid[16]);                        /* 16 fresh random b
 void outside_sign(const chz_message *det, uint8_t sign[4]); /* from the key store */
 void outside_send(unsigned number, const uint8_t *bytes, size_t len);
 void outside_close(unsigned number);
+
+/* The trace, for the program replay: two files, which are in no transaction. False: not written, or not whole. */
+bool outside_begin_trace(const uint8_t *enrolments, size_t len); /* two new files: these enrolments, and a trace of no bytes yet */
+bool outside_record(const uint8_t *bytes, size_t len);           /* at the end of the trace; it outlives the program's end */
+uint64_t outside_clock(void);                                    /* nanoseconds, never backwards: CLOCK_MONOTONIC */
 
 #endif

@@ -1,7 +1,9 @@
 #!/usr/bin/env python3
-"""Writes conversation.txt to standard output: what two base stations send, cut into pieces as a connection would, and what
-befalls the host meanwhile."""
+"""Writes a conversation to standard output: what two base stations send, cut into pieces as a connection would, and what befalls the
+host meanwhile. make_conversation.py [conversation | day | limits]: conversation.txt; day.txt, a day on which nothing of the host's own
+comes between; tests/host/limits.txt, what a replay of the trace prints otherwise than it was."""
 import struct
+import sys
 
 METERS = [0x70B3D50000000001, 0x70B3D50000000002, 0x70B3D50000000003]
 STRANGER = 0x70B3D500000000FF
@@ -88,6 +90,10 @@ def cancel(station, que_id):
 
 def fail(commit=1):
     print(f"fail {commit}")
+
+
+def full():
+    print("full")
 
 
 def restart():
@@ -324,12 +330,128 @@ def valve_and_store():
     restart()
 
 
+def all_completed():
+    remark("A meter leaves. Then nothing is open at either station.")
+    leaves(0, 6)
+    say(0, "ulDataCmp", 5, cut=0)
+    say(0, "detCmp", 6, cut=0)
+    say(1, "ulDataCmp", 5, cut=0)
+    say(1, "ulDataCmp", 6, cut=0)
+
+
+def resume_quietly():
+    remark("Station 0 is lost inside a frame and resumes. Station 1 comes back with another session UUID and begins anew, its IDs too.")
+    heard(0, 7, METERS[1], 202, cut=20)
+    lost(0)
+    come_back(0, 0xA0, 6, 0)
+    heard(0, 7, METERS[1], 202, cut=0)
+    say(0, "ulDataCmp", 7, cut=0)
+    lost(1)
+    con(1, 0xB1, cut=0)
+    say(1, "conCmp", 0, cut=0)
+    heard(1, 1, METERS[1], 202, cut=0)
+    say(1, "ulDataCmp", 1, cut=0)
+
+
+def evening():
+    remark("Station 1 is back with the right version. One meter's packets come crosswise: the older one is late at the other station.")
+    come_back(1, 0xB1, 2, 0)
+    heard(1, 3, METERS[0], 103, cut=0)
+    heard(0, 8, METERS[0], 104, cut=0)
+    heard(1, 4, METERS[0], 104, cut=0)
+    heard(0, 9, METERS[0], 103, cut=0)
+    heard(0, 10, METERS[2], 302, cut=0)
+    heard(1, 5, METERS[2], 4294967295, cut=0)
+
+
+def afresh(uuid):
+    restart()
+    for station in (0, 1):
+        con(station, uuid, cut=0)
+        say(station, "conCmp", 0, cut=0)
+
+
+def enrolled_meanwhile():
+    remark("1: A meter is withdrawn and another enrolled behind the trace's start. The replay knows neither.")
+    afresh(1)
+    print(f"withdraw {METERS[1]:016X}")
+    print(f"meter {SUCCESSOR:016X} 1A2B 11")
+    heard(0, 1, SUCCESSOR, 12, cut=0)
+    heard(0, 2, METERS[1], 1001, cut=0)
+    heard(0, 3, METERS[0], 1001, cut=0)
+
+
+def known_and_credited():
+    remark("2: ulData 1 comes damaged; after a resume it comes again, whole. Its ID is known by then: the host credits it beside the session, the")
+    remark("replay does not.")
+    afresh(2)
+    send(0, frame(element({"command": "ulData", "opId": 1})), 0)
+    heard(0, 2, METERS[2], 2001, cut=0)
+    lost(0)
+    come_back(0, 2, 2, 0)
+    heard(0, 1, METERS[0], 2001, cut=0)
+
+
+def completed_by_the_host():
+    remark("3: Sixteen Cmps are lost with the connection. The host completes the operations itself; in the replay they stay open until the station")
+    remark("begins anew.")
+    afresh(3)
+    pings = [frame(element({"command": "ping", "opId": 1 + i})) for i in range(15)]
+    send(0, b"".join(pings), 0)
+    heard(0, 16, METERS[0], 3001, cut=0)
+    lost(0)
+    come_back(0, 3, 16, 0)
+    heard(0, 17, METERS[0], 3002, cut=0)
+    lost(0)
+    con(0, 0x33, cut=0)
+    say(0, "conCmp", 0, cut=0)
+    heard(0, 1, METERS[0], 3003, cut=0)
+
+
+def not_stored_but_recorded():
+    remark("4: The commit of a reading fails, and a newer one comes by way of the other station before it comes again: late for the host. In the")
+    remark("replay no commit fails.")
+    afresh(4)
+    fail()
+    heard(0, 1, METERS[0], 4001, cut=0)
+    heard(1, 1, METERS[0], 4002, cut=0)
+    come_back(0, 4, 0, 0)
+    heard(0, 1, METERS[0], 4001, cut=0)
+
+
+def before_its_con():
+    remark("5: A station sends a reading before its con, and again behind it. In the replay its session is still open the first time.")
+    afresh(5)
+    heard(0, 1, METERS[0], 5001, cut=0)
+    lost(0)
+    heard(0, 2, METERS[0], 5002, cut=0)
+    heard(1, 1, METERS[2], 5001, cut=0)
+    come_back(0, 5, 1, 0)
+    heard(0, 2, METERS[0], 5002, cut=0)
+
+
+def not_recorded():
+    remark("6: The trace's disk is full. Readings are credited as before, and the trace ends inside a record.")
+    afresh(6)
+    heard(0, 1, METERS[0], 6001, cut=0)
+    full()
+    heard(0, 2, METERS[0], 6002, cut=0)
+    heard(0, 3, METERS[0], 6003, cut=0)
+
+
+CONVERSATIONS = {
+    "conversation": (connect, readings, operations, lose_and_resume, not_stored, restarted, lost_cmp, known_but_not_credited, sixteen_open,
+                     con_while_open, replaced, damage, valve_shut, valve_and_lost, valve_and_store),
+    "day": (connect, readings, all_completed, resume_quietly, damage, evening),
+    "limits": (enrolled_meanwhile, known_and_credited, completed_by_the_host, not_stored_but_recorded, before_its_con, not_recorded),
+}
+
 remark("What two base stations send. Lines are cut inside frames: a frame's end may stand in its station's next line.")
 remark("'fail N': the host's Nth commit from there fails. 'restart': the host ends and starts with nothing but its store.")
 remark("'shut': a valve of a meter, under a queue ID; 'cancel': by that ID; 'damage': what is stored of the station's queue.")
+remark("'full': the trace's disk is full until the restart.")
 remark("Meters: long address, short address (two share one), last counter already billed.")
 for meter, short, counter in zip(METERS, ("1A2B", "1A2B", "3C4D"), (100, 200, 300)):
     print(f"meter {meter:016X} {short} {counter}")
-for part in (connect, readings, operations, lose_and_resume, not_stored, restarted, lost_cmp, known_but_not_credited, sixteen_open,
-             con_while_open, replaced, damage, valve_shut, valve_and_lost, valve_and_store):
+for part in CONVERSATIONS[sys.argv[1] if len(sys.argv) > 1 else "conversation"]:
     part()

@@ -24,6 +24,8 @@ void places(void);
 void choices(void);
 void refused_queues(void);
 void filling(void);
+void traces(void);
+void refused_traces(void);
 
 /* Payloads that several groups use: P of document 01, its answer, a con, a reading, and two starts of the centre with fields. */
 #define PING "82 'command' 'ping' 'opId' 01"

@@ -31,3 +31,12 @@ uint64_t shut(chz_queue &queue, chz_session &session, uint64_t meter, uint32_t c
     chz_downlink_entry_for(&m, counter, chosen.data, chosen.data_len);
     return chz_session_begin(&session, &m, room, room_len);
 }
+
+size_t write_and_read(uint64_t gap, uint8_t *room, size_t room_len, const uint8_t *frame, size_t frame_len)
+{
+    uint64_t time = 0;
+    if (chz_refused(chz_trace_start(room, room_len)) || chz_refused(chz_trace_open(room, room_len))) return 0;
+    if (chz_refused(chz_record(&time, gap, 63, frame, frame_len, room, room_len))) return 0;
+    const uint64_t answer = chz_recorded(&time, room, room_len);
+    return chz_recorded_station(answer) == 63 ? chz_recorded_len(answer) - chz_recorded_frame_len(answer) : CHZ_RECORD;
+}

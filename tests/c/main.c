@@ -1,4 +1,4 @@
-/* The calls from outside, by hand: document 01's examples and each refusal of each call. All of it twice: as the program
+/* The calls from outside, by hand: the documents' examples and each refusal of each call. All of it twice: as the program
  * starts, and with subnormal numbers taken for zero and numbers rounded downward, as a host may run; no answer may depend on that.
  * The last line is 'N passed, M failed'. */
 #include "cases.h"
@@ -28,6 +28,8 @@ static void all_groups(void)
     choices();
     refused_queues();
     filling();
+    traces();
+    refused_traces();
 }
 
 int main(void)

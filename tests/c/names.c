@@ -20,7 +20,10 @@ static const struct word refusals[] = {
     { CHZ_NO_FREE_ROW, "no free row" }, { CHZ_UNEQUAL_COLUMNS, "columns of unequal length" },
     { CHZ_STATION_NUMBER, "station number over 63" }, { CHZ_STALE, "stale counter" },
     { CHZ_QUEUE_ID_THERE, "queue ID already there" }, { CHZ_QUEUE_FULL, "queue full" }, { CHZ_NO_QUEUE_ID, "no such queue ID" },
-    { CHZ_NOTHING_SUITABLE, "nothing suitable" }, { 31, "unknown" }, { 255, "unknown" }, { UINT_MAX, "unknown" },
+    { CHZ_NOTHING_SUITABLE, "nothing suitable" }, { CHZ_NOT_A_TRACE, "not a trace" },
+    { CHZ_NOT_SHORTEST, "number not in its shortest form" }, { CHZ_INPUT_ENDS, "input ends inside" },
+    { CHZ_TIME_SUM, "time past 2^64 - 1" }, { CHZ_NOT_ONE_FRAME, "not one whole frame" }, { 36, "unknown" }, { 255, "unknown" },
+    { UINT_MAX, "unknown" },
 };
 
 static const struct word commands_by_number[] = {
@@ -42,9 +45,10 @@ static const struct word happenings[] = {
 };
 
 /* The greatest row that an answer can tell, heard by all. The last data entry that a queue can show: behind fifteen of 37 bytes, in the
- * last place, as long as may be. */
+ * last place, as long as may be. The longest record. */
 #define CREDITED_FAR ANSWER(0, CHZ_NEW, 0xFFFFFFFFFF40)
 #define CHOSEN_LAST ANSWER(0, 0, 31 + 256 * 245 + 65536 * (80 + 15 * 37))
+#define RECORDED_LONGEST ANSWER(0, 0, 4121 + UINT64_C(65536) * 4108 + (UINT64_C(63) << 32))
 
 static void each(const char *(*name)(unsigned), const struct word *words, size_t count)
 {
@@ -66,4 +70,8 @@ void names(void)
     JUDGE(chz_chosen_place(CHOSEN_LAST), 31, NULL);
     JUDGE(chz_chosen_len(CHOSEN_LAST), 245, NULL);
     JUDGE(chz_chosen_from(CHOSEN_LAST), 635, NULL);
+    start("the parts of chz_recorded's value");
+    JUDGE(chz_recorded_len(RECORDED_LONGEST), 4121, NULL);
+    JUDGE(chz_recorded_frame_len(RECORDED_LONGEST), 4108, NULL);
+    JUDGE(chz_recorded_station(RECORDED_LONGEST), 63, NULL);
 }

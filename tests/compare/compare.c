@@ -46,9 +46,13 @@ static const struct call calls[] = {
     { "chz_cancel", { { "queue", 'q' }, { "que_id", 'n' } } },
     { "chz_choose", { { "queue", 'q' }, { "meter", 'n' }, { "counter", 'n' }, { "expected", 'n' }, { "shown", 'd' } } },
     { "chz_sound", { { "queue", 'q' } } },
+    { "chz_trace_start", { { "room", 'b' } } },
+    { "chz_record", { { "time", '8' }, { "gap", 'n' }, { "station", 'n' }, { "frame", 'b' }, { "room", 'b' } } },
+    { "chz_trace_open", { { "bytes", 'b' } } },
+    { "chz_recorded", { { "time", '8' }, { "bytes", 'b' } } },
 };
 /* By number, those of which the code speaks. */
-enum { ADD = 11, CANCEL, CHOOSE };
+enum { ADD = 11, CANCEL, CHOOSE, SOUND, TRACE_START, RECORD, TRACE_OPEN };
 /* An answer that isn't known: the queue is one that no calls made. */
 #define UNKNOWN UINT64_MAX
 enum { CALLS = sizeof calls / sizeof *calls };
@@ -196,6 +200,7 @@ static uint8_t *pointer(int i)
 
 #define BYTES(i) pointer(i), handed[i].count
 #define N(i) handed[i].count
+#define TIME ((uint64_t *)(void *)pointer(0))
 #define TABLE BYTES(0), (uint64_t *)(void *)pointer(1), N(1), (uint16_t *)(void *)pointer(2), N(2), \
     (uint32_t *)(void *)pointer(3), N(3), (uint64_t *)(void *)pointer(4), N(4), N(5)
 
@@ -216,7 +221,11 @@ static uint64_t make_call(void)
     case ADD: return chz_add(BYTES(0), BYTES(1), BYTES(2));
     case CANCEL: return chz_cancel(BYTES(0), N(1));
     case CHOOSE: return chz_choose(BYTES(0), N(1), (uint32_t)N(2), (uint8_t)N(3));
-    default: return chz_sound(BYTES(0));
+    case SOUND: return chz_sound(BYTES(0));
+    case TRACE_START: return chz_trace_start(BYTES(0));
+    case RECORD: return chz_record(TIME, N(1), N(2), BYTES(3), BYTES(4));
+    case TRACE_OPEN: return chz_trace_open(BYTES(0));
+    default: return chz_recorded(TIME, BYTES(1));
     }
 }
 
@@ -470,7 +479,7 @@ int main(int words, char **word)
     for (take(&which, 1); which != 255; take(&which, 1), number++) one_case(which);
     if (take_number() != number) end("cases are missing");
     for (int i = 0; i < CALLS; i++) {
-        printf("%-12s %7llu passed, %llu failed;", calls[i].name, (unsigned long long)passed[i], (unsigned long long)failed[i]);
+        printf("%-15s %7llu passed, %llu failed;", calls[i].name, (unsigned long long)passed[i], (unsigned long long)failed[i]);
         print_counts(" refused", 0, refused[i]);
         print_counts("; happened", 1, happened[i]);
         if (unknown[i]) printf("; on any bytes %llu", (unsigned long long)unknown[i]);

@@ -42,6 +42,10 @@ enum Call {
     Cancel,
     Choose,
     Sound,
+    TraceStart,
+    Record,
+    TraceOpen,
+    Recorded,
 }
 
 const UNKNOWN: u64 = u64::MAX;
@@ -71,6 +75,11 @@ impl Case {
     /// A message and its data, as the calls take them.
     fn image(self, before: &Image, after: &Image) -> Case {
         self.buffer(&before.message, &after.message).buffer(&before.data, &after.data)
+    }
+
+    /// The time of a trace, which a call is lent as a pointer to one number.
+    fn time(self, before: u64, after: u64) -> Case {
+        self.column(1, &before.to_le_bytes(), &after.to_le_bytes())
     }
 
     fn column(mut self, count: usize, before: &[u8], after: &[u8]) -> Case {
@@ -267,5 +276,29 @@ impl Stream {
         let answer = calls::uplink(columns, meter, counter, station);
         let case = Case::new(Call::Uplink).columns(&before, columns).number(meter);
         self.case(case.number(counter.into()).number(station), answer)
+    }
+
+    pub fn trace_start(&mut self, room: &[u8]) -> u64 {
+        let mut after = room.to_vec();
+        let answer = calls::trace_start(&mut after);
+        self.case(Case::new(Call::TraceStart).buffer(room, &after), answer)
+    }
+
+    /// The answer and the room after the call; the time is left as the call leaves it, here and in the last call.
+    pub fn record(&mut self, time: &mut u64, gap: u64, station: u64, frame: &[u8], room: &[u8]) -> (u64, Vec<u8>) {
+        let (before, mut after) = (*time, room.to_vec());
+        let answer = calls::record(time, gap, station, frame, &mut after);
+        let case = Case::new(Call::Record).time(before, *time).number(gap).number(station);
+        (self.case(case.buffer(frame, frame).buffer(room, &after), answer), after)
+    }
+
+    pub fn trace_open(&mut self, bytes: &[u8]) -> u64 {
+        self.case(Case::new(Call::TraceOpen).buffer(bytes, bytes), calls::trace_open(bytes))
+    }
+
+    pub fn recorded(&mut self, time: &mut u64, bytes: &[u8]) -> u64 {
+        let before = *time;
+        let answer = calls::recorded(time, bytes);
+        self.case(Case::new(Call::Recorded).time(before, *time).buffer(bytes, bytes), answer)
     }
 }

@@ -1,8 +1,8 @@
 /* A random walk through the example host: stress SEED. Connections break, messages arrive damaged, commits fail or seem to fail,
- * and the host is killed before and behind every commit and every reply. In the end every reading has its Rsp and is billed
- * once. One that was overtaken (its meter is heard by several stations, or its message was damaged and came again later) may
- * instead be on the list of late packets. Every downlink that was queued waits still, was cancelled, or was taken by its station,
- * once. */
+ * records can't be written, and the host is killed before and behind every commit, every record and every reply. In the end every
+ * reading has its Rsp and is billed once. One that was overtaken (its meter is heard by several stations, or its message was damaged
+ * and came again later) may instead be on the list of late packets. Every downlink that was queued waits still, was cancelled, or was
+ * taken by its station, once. */
 #include <setjmp.h>
 #include <stdio.h>
 #include <stdlib.h>
@@ -18,7 +18,7 @@ static chz_session sessions[HOST_STATIONS];
 static chz_queue queues[STATIONS];
 static struct { chz_message m[MOST_ASKED]; size_t len; } asked[STATIONS]; /* in the order issued */
 
-static unsigned long kills, losses, failures;
+static unsigned long kills, losses, failures, records, unrecorded;
 static jmp_buf killed;
 static bool danger;
 static uint64_t state;
@@ -146,6 +146,37 @@ void outside_close(unsigned number)
     sims[number].up.len = 0;
 }
 
+/* The trace: as it would be read. A record that is not whole is the host's last until it starts again. */
+static struct { bool begun, ended; uint64_t sum; } trace;
+
+bool outside_begin_trace(const uint8_t *enrolments, size_t len)
+{
+    perhaps_die();
+    memset(&trace, 0, sizeof trace);
+    if (len != METERS * HOST_ENROLMENT || enrolments[7] != 1 || enrolments[len - 7] != METERS) abort();
+    return !one_in(40);
+}
+
+bool outside_record(const uint8_t *bytes, size_t len)
+{
+    perhaps_die();
+    uint64_t answer = trace.begun ? chz_recorded(&trace.sum, bytes, len) : chz_trace_open(bytes, len);
+    size_t whole = trace.begun ? chz_recorded_len(answer) : chz_value(answer);
+    if (chz_refused(answer) || whole != len || trace.ended) abort();
+    trace.begun = true;
+    trace.ended = one_in(400);
+    records++;
+    unrecorded += trace.ended;
+    perhaps_die();
+    return !trace.ended;
+}
+
+uint64_t outside_clock(void)
+{
+    static uint64_t now;
+    return now += below(3);
+}
+
 static void hand_over(unsigned number)
 {
     static uint8_t bytes[WIRE];
@@ -231,8 +262,8 @@ static int judge(void)
     for (int i = 0; i < STATIONS * 16; i++) wrong += sessions[i / 16].centre_id[i % 16] != 0;
     fprintf(stderr, "%lu readings, %lu of them late and not billed; %lu kills, %lu lost connections, %lu failed commits: ", readings,
         only_late, kills, losses, failures);
-    fprintf(stderr, "%lu wrong, %lu discarded\n", wrong, discarded);
-    return wrong || discarded || !kills || !losses || !failures;
+    fprintf(stderr, "%lu wrong, %lu discarded; %lu records, %lu not written\n", wrong, discarded, records, unrecorded);
+    return wrong || discarded || !kills || !losses || !failures || !records || !unrecorded;
 }
 
 int main(int count, char **words)

@@ -3,3 +3,4 @@ pub mod Calls
 pub mod Kept
 pub mod Settled
 pub mod Queues
+pub mod Tracing

@@ -20,9 +20,12 @@ shown value = either (leb value most) (λ _. value) (λ _. most)
 unfoldable pub packed : ℕ → ℕ → ℕ → ℕ
 packed refusal happened value = refusal + (256 * happened + 65536 * shown value)
 
--- what the header's helpers take from an answer: the refusal and the value
+-- what the header's helpers take from an answer: the refusal, what happened and the value
 abbrev pub answerRefusal : ℕ → ℕ
 answerRefusal a = a % 256
+
+abbrev pub answerHappened : ℕ → ℕ
+answerHappened a = a / 256 % 256
 
 abbrev pub answerValue : ℕ → ℕ
 answerValue a = a / 65536

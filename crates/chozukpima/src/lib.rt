@@ -5,3 +5,4 @@ mod messages;
 mod sessions;
 mod stream;
 mod table;
+mod traces;

@@ -23,7 +23,7 @@ unfolding joined signedParts signedDecimal
 joined-signed (pos n) = joined-each (decimal n)
 joined-signed (negsuc k) = ap (λ (l : List ℕ). bytes "-" ++ l) (joined-each (decimal (suc k)))
 
-joined-counted : (words : List ℕ) (n : ℕ) → joined (countedParts words n) ≡ counted words n
+pub joined-counted : (words : List ℕ) (n : ℕ) → joined (countedParts words n) ≡ counted words n
 unfolding joined countedParts
 joined-counted words n = simp (joined-join, joined-each)
 
@@ -54,7 +54,7 @@ unfolding signedDecimal
 few-signed (pos n) = omega (arith, few-digits 20 n)
 few-signed (negsuc k) = omega (arith, few-digits 20 (suc k))
 
-few-counted : (words : List ℕ) (n : ℕ) → length (counted words n) ≤ length words + 21
+pub few-counted : (words : List ℕ) (n : ℕ) → length (counted words n) ≤ length words + 21
 few-counted words n = simp length-append (omega (arith, few-digits 20 n))
 
 abbrev areShort : List (List ℕ) → Bool
@@ -97,16 +97,16 @@ module _ (ps : List (List ℕ)) (l : List ℕ) (same : joined ps ≡ l) (few : l
   stands : v ≡ put (putAt d 0 l) (0 + length l)
   stands = p ∙ fits-parts ps d 0 (rw same (omega arith)) ∙ ap (λ (x : List ℕ). put (putAt d 0 x) (0 + length x)) same
 
-  made-size : v .next ≤ length (v .room)
+  pub made-size : v .next ≤ length (v .room)
   made-size = rw (stands, length-put) (omega arith)
 
-  made-taken : v .next ≡ length (take (v .next) (v .room))
+  pub made-taken : v .next ≡ length (take (v .next) (v .room))
   made-taken = sym (length-take-le (v .next) (v .room) made-size)
 
   taken : take (v .next) (v .room) ≡ l
   taken = ap (λ (o : Put). take (o .next) (o .room)) stands ∙ put-upto d 0 l (omega arith)
 
-  made-put : (o a : Put) → a ≡ putParts (take (v .next) (v .room) ∷ []) o → a ≡ putParts (l ∷ []) o
+  pub made-put : (o a : Put) → a ≡ putParts (take (v .next) (v .room) ∷ []) o → a ≡ putParts (l ∷ []) o
   made-put o a e = e ∙ ap (λ (x : List ℕ). putParts (x ∷ []) o) taken
 
 module _ (d : List ℕ) (h : length d ≡ 80) (v : Put) (number : ℕ) where

@@ -1,73 +1,58 @@
--- What is printed of a whole input is settled: every input has one text, and no second. Assumes nothing.
-use mathlib.Core.Path.{_≡_, refl, sym, ap, ap₂, subst, _∙_}
-use mathlib.Core.List.{List, [], _∷_, _++_}
-use Prim.Native.Nat.{ℕ, zero, suc, _+_, _≤_, _<_}
-use native.Mathlib.Omega.{arith}
-use lib.ListN.{length, drop, length-drop}
-use Rattle.frame.specs.declared.Framed.{Framed, the-variants.Whole, the-variants.Refused}
-use Rattle.frame.specs.Frame.{identifier, agrees, sizeOf, framedOf, payloadOf, usedOf, frameRefusal}
-use Rattle.frame.proofs.Format.{refused-number, whole-size, fits}
-use Rattle.record.specs.declared.Told.{Told}
-use Rattle.lines.specs.{Means.Means, Lines.lineOf, Lines.endLine, Lines.stopLines, Prints.Prints}
-use Rattle.lines.proofs.Meaning.{toldAt, told-means, means-once}
+-- What is printed of a whole input is what the turns print with all of it at hand. So every input has one text and no second, and however it is cut
+-- into pieces, the turns come to an end and print that text. Assumes nothing.
+use mathlib.Core.Path.{_≡_, refl, sym}
+use mathlib.Core.Bool.{true, false, and-false}
+use mathlib.Core.List.{List, [], _++_}
+use Prim.Native.Nat.{ℕ, suc}
+use lib.{Dec.eqb, ListN.drop}
+use Rattle.octets.proofs.Ranges.{true-false}
+use Rattle.frame.specs.Frame.{framedOf, frameRefusal}
+use Rattle.turns.{specs.Turns.Turn, specs.Turns.Runs, specs.Turns.whole}
+use Rattle.turns.proofs.Pieces as turns
+use Rattle.lines.specs.{Prints.Prints, Runs.OneTurn}
+use Rattle.lines.proofs.Running.{uses-some, Way, way-turn, turn-way, steady}
 
--- nothing at hand is a frame that is not complete
-pub empty-waits : framedOf [] ≡ Refused 1
-unfolding framedOf agrees identifier
-empty-waits = refl
+-- what the turns print is printed
+ended-prints : (n : ℕ) (s : List ℕ) (t : Turn ℕ) → Way true n s t → t .ended ≡ true → Prints n s (t .text)
+ended-prints n s t (Way.line l m g told e w) d = true-false (sym d)
+ended-prints n s t (Way.end m) d = Prints.finished n
+ended-prints n s t (Way.stop l m g k z c) d = Prints.stopped n s k z
 
--- no frame is whole in no bytes
-empty-unframed : {A : Type 0} → frameRefusal (framedOf []) ≡ 0 → A
-empty-unframed e = let z : _≡_ {A = ℕ} 1 0 = sym (ap frameRefusal empty-waits) ∙ e in absurd (omega arith)
+passed-prints : (n : ℕ) (s out : List ℕ) (t : Turn ℕ) → Way true n s t → t .ended ≡ false → Prints (t .state) (drop (t .used) s) out → Prints n s (t .text ++ out)
+passed-prints n s out t (Way.line l m g told e w) d p = Prints.framed n s out told e w p
+passed-prints n s out t (Way.end m) d p = true-false d
+passed-prints n s out t (Way.stop l m g k z c) d p = true-false d
 
--- by the frame's answer
-module _ (n : ℕ) (s : List ℕ) (k : ℕ) where
-  pub framed-prints : framedOf s ≡ Whole k → (t : Told) (out : List ℕ) → Means (payloadOf k s) t → Prints (suc n) (drop (12 + k) s) out → Prints n s (lineOf n t ++ out)
-  framed-prints e t out m p =
-      Prints.framed n s out t (ap frameRefusal e)
-      (subst (λ (x : List ℕ). Means x t) (ap (λ (j : ℕ). payloadOf j s) (sym (whole-size s k e))) m)
-      (subst (λ (x : List ℕ). Prints (suc n) x out) (ap (λ (f : Framed). drop (usedOf f) s) (sym e)) p)
+whole-prints : (n m : ℕ) (s out : List ℕ) → Runs OneTurn true n s [] out m → Prints n s out
+whole-prints n m s out (Runs.ends l x g qs t o d) = ended-prints n s t (turn-way true n s t o) d
+whole-prints n m s out (Runs.passes l x y g qs rest t o d z r) =
+    passed-prints n s rest t (turn-way true n s t o) d (whole-prints (t .state) m (drop (t .used) s) rest r)
+whole-prints n m s out (Runs.closes l x y g rest t o d z r) = true-false (steady .waits true n s t o d z .0)
 
-  pub stopped-prints : framedOf s ≡ Refused k → 0 < length s → Prints n s (stopLines n k)
-  stopped-prints e l =
-      let h : 0 < k = refused-number s k e in
-      subst (λ (f : Framed). Prints n s (stopLines n (frameRefusal f))) e
-      (Prints.stopped n s l (λ z. let i : k ≡ 0 = sym (ap frameRefusal e) ∙ z in omega arith))
+-- and what is printed they print
+prints-whole : (n : ℕ) (s out : List ℕ) → Prints n s out → (m : ℕ) × Runs OneTurn true n s [] out m
+prints-whole n s out (Prints.finished k) = (n, Runs.ends true n [] [] _ (way-turn true n [] _ (Way.end n)) refl)
+prints-whole n s out (Prints.framed k g rest t e w p) =
+    let r = prints-whole (suc n) _ rest p in
+    (r .0, Runs.passes true n (r .0) s [] rest _ (way-turn true n s _ (Way.line true n s t e w)) refl (uses-some s e) (r .1))
+prints-whole n s out (Prints.stopped k g l e) = (n, Runs.ends true n s [] _ (way-turn true n s _ (Way.stop true n s l e (and-false (eqb (frameRefusal (framedOf s)) 1)))) refl)
 
 pub prints-once : (n : ℕ) (s a b : List ℕ) → Prints n s a → Prints n s b → a ≡ b
-prints-once n s a b (Prints.finished m) (Prints.finished k) = refl
-prints-once n s a b (Prints.finished m) (Prints.framed k t out u e w p) = empty-unframed e
-prints-once n s a b (Prints.finished m) (Prints.stopped k t l e) = absurd (omega arith)
-prints-once n s a b (Prints.framed m t out u e w p) (Prints.finished k) = empty-unframed e
-prints-once n s a b (Prints.framed m t out u e w p) (Prints.framed k t′ out′ u′ e′ w′ p′) =
-    ap₂ (λ (x : Told) (o : List ℕ). lineOf n x ++ o) (means-once (payloadOf (sizeOf s) s) u u′ w w′) (prints-once (suc n) (drop (usedOf (framedOf s)) s) out out′ p p′)
-prints-once n s a b (Prints.framed m t out u e w p) (Prints.stopped k t′ l e′) = absurd (e′ e)
-prints-once n s a b (Prints.stopped m t l e) (Prints.finished k) = absurd (omega arith)
-prints-once n s a b (Prints.stopped m t l e) (Prints.framed k t′ out u e′ w p) = absurd (e e′)
-prints-once n s a b (Prints.stopped m t l e) (Prints.stopped k t′ l′ e′) = refl
-
--- by how many bytes are left
-abbrev Output : ℕ → List ℕ → Type 0
-Output n s = (out : List ℕ) × Prints n s out
-
-prints-next : (most n : ℕ) (s : List ℕ) → length s ≤ suc most → ((k : ℕ) → length (drop (12 + k) s) ≤ most → Output (suc n) (drop (12 + k) s)) → Output n s
-prints-next most n [] h more = (endLine n, Prints.finished n)
-prints-next most n (b ∷ s) h more = go (framedOf (b ∷ s)) refl
-  where
-    go : (f : Framed) → framedOf (b ∷ s) ≡ f → Output n (b ∷ s)
-    go (Refused k) e = (stopLines n k, stopped-prints n (b ∷ s) k e (omega arith))
-    go (Whole k) e =
-        let t = toldAt (payloadOf k (b ∷ s)) in
-        let r = more k (omega (arith, length-drop (12 + k) (b ∷ s), fits (b ∷ s) k e)) in
-        (lineOf n t ++ r .0, framed-prints n (b ∷ s) k e t (r .0) (told-means (payloadOf k (b ∷ s))) (r .1))
-
-prints-none : (n : ℕ) (s : List ℕ) → length s ≤ 0 → Output n s
-prints-none n [] h = (endLine n, Prints.finished n)
-prints-none n (b ∷ s) h = absurd (omega arith)
-
-prints-within : (most n : ℕ) (s : List ℕ) → length s ≤ most → Output n s
-prints-within zero n s h = prints-none n s h
-prints-within (suc most) n s h = prints-next most n s h (λ k l. prints-within most (suc n) (drop (12 + k) s) l)
+prints-once n s a b p q =
+    let r = prints-whole n s a p in
+    let t = prints-whole n s b q in
+    turns.whole-once OneTurn steady n (r .0) (t .0) s a b (r .1) (t .1) .0
 
 pub prints-all : (n : ℕ) (s : List ℕ) → (out : List ℕ) × Prints n s out
-prints-all n s = prints-within (length s) n s (omega arith)
+prints-all n s = let r = turns.runs-last OneTurn steady n s in (r .0, whole-prints n (r .1 .0) s (r .0) (r .1 .1))
+
+-- from the start: no bytes at hand, the first frame's number is 0
+pub pieces-print : (ps : List (List ℕ)) (out : List ℕ) (m : ℕ) → Runs OneTurn false 0 [] ps out m → Prints 0 (whole ps) out
+pieces-print ps out m r = whole-prints 0 m (whole ps) out (turns.run-whole OneTurn steady false 0 m [] ps out r (λ e. true-false (sym e)))
+
+pub pieces-run : (ps : List (List ℕ)) → (out : List ℕ) × ((m : ℕ) × Runs OneTurn false 0 [] ps out m)
+pieces-run ps = turns.runs-open OneTurn steady ps 0 []
+
+-- and two cuttings of one input print the same
+pub pieces-once : (ps qs : List (List ℕ)) → whole ps ≡ whole qs → (a b : List ℕ) (m k : ℕ) → Runs OneTurn false 0 [] ps a m → Runs OneTurn false 0 [] qs b k → (a ≡ b) × (m ≡ k)
+pieces-once ps qs e a b m k r q = turns.pieces-once OneTurn steady ps qs e 0 m k a b r q

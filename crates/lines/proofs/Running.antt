@@ -1,119 +1,128 @@
--- However the input is cut into pieces, the turns print what is printed of it as a whole. By induction on the turns: a frame that is whole in the
--- bytes at hand is the same in the whole input, and only a frame that is not complete waits. Assumes nothing.
+-- The program's turns keep to what turns must (crates/turns): there is one and no second, only a frame that is not complete waits, and a frame that is
+-- whole in the bytes at hand is the same however the input goes on. Assumes nothing.
 use mathlib.Core.Path.{_≡_, refl, sym, ap, subst, _∙_}
-use mathlib.Core.Bool.{Bool, true, false, _&&_, not}
-use mathlib.Core.List.{List, [], _∷_, _++_, append-assoc}
-use Prim.Native.Nat.{ℕ, suc, _+_, _<_}
+use mathlib.Core.Bool.{Bool, true, false, _&&_, not, and-true, and-false}
+use mathlib.Core.List.{List, [], _∷_, _++_}
+use Prim.Native.Nat.{ℕ, suc, _≤_, _<_}
 use native.Mathlib.Omega.{arith}
-use lib.{Dec.eqb, ListN.length, ListN.drop, ListN.length-append}
-use borrow.Author.Tests.{eq-eqb, ne-eqb, eqb-true, eqb-false}
-use Rattle.octets.specs.Choice.{either}
-use Rattle.octets.proofs.{Ranges.true-false, Places.append-nil}
+use lib.{Dec.eqb, ListN.length, ListN.length-append}
+use borrow.Author.Tests.{ne-eqb, eqb-true, eqb-false}
+use Rattle.octets.proofs.Ranges.{true-false}
 use Rattle.frame.specs.declared.Framed.{Framed, the-variants.Whole, the-variants.Refused}
-use Rattle.frame.specs.Frame.{framedOf, payloadOf, usedOf, frameRefusal}
-use Rattle.record.specs.declared.Told.{Told}
-use Rattle.lines.specs.{Means.Means, Means.MeansFramed, Lines.lineOf, Lines.endLine, Lines.stopLines}
-use Rattle.lines.specs.{Turn.Printed, Turn.printedRefused, Turn.printedOf, Prints.Prints, Runs.OneTurn, Runs.Runs, Runs.whole}
+use Rattle.frame.specs.Frame.{identifier, agrees, sizeOf, framedOf, payloadOf, usedOf, frameRefusal}
+use Rattle.frame.proofs.{Format.refused-number, Format.whole-size, Used.used-within}
+use Rattle.record.specs.{declared.Told.Told, Meant.refusedAt}
+use Rattle.turns.{specs.Turns.Turn, proofs.Steady.Steady}
 use Rattle.reading.specs.declared.Unframed.{Unframed}
-use Rattle.lines.proofs.{Meaning.refused-told, Meaning.whole-told, Printing.empty-waits, Printing.framed-prints, Printing.stopped-prints}
-use Rattle.lines.proofs.Straddle.{straddles, whole-straddles, payload-straddles, rest-straddles}
+use Rattle.lines.specs.{Means.scratch, Means.Means, Lines.lineOf, Lines.endLine, Lines.stopLines}
+use Rattle.lines.specs.{Turn.printedRefused, Turn.printedOf, Runs.numbered, Runs.OneTurn}
+use Rattle.lines.proofs.{Meaning.told-means, Meaning.framed-once, Straddle.straddles, Straddle.payload-straddles}
+
+-- nothing at hand is a frame that is not complete
+empty-waits : frameRefusal (framedOf []) ≡ 1
+unfolding framedOf agrees identifier
+empty-waits = refl
+
+-- a frame that is not refused
+module _ (s : List ℕ) (z : frameRefusal (framedOf s) ≡ 0) where
+  whole-framed : framedOf s ≡ Whole (sizeOf s)
+  whole-framed = go (framedOf s) refl
+    where
+      go : (f : Framed) → framedOf s ≡ f → framedOf s ≡ Whole (sizeOf s)
+      go (Whole k) e = e ∙ ap Whole (sym (whole-size s k e))
+      go (Refused k) e = let i : k ≡ 0 = sym (ap frameRefusal e) ∙ z in absurd (omega (arith, refused-number s k e))
+
+  pub uses-some : usedOf (framedOf s) ≡ 0 → ⊥
+  uses-some y = omega (arith, ap usedOf whole-framed)
+
+uses-none : (f : Framed) → (frameRefusal f ≡ 0 → ⊥) → 0 ≡ usedOf f
+uses-none (Whole k) z = absurd (z refl)
+uses-none (Refused k) z = refl
 
 -- what a turn prints: a line, nothing yet, the end, or a stop
-pub data Way (last : Bool) (n : ℕ) (h : List ℕ) : Printed → Type 0 where
-  line : (size : ℕ) (t : Told) → framedOf h ≡ Whole size → Means (payloadOf size h) t → Way last n h (record { used = 12 + size; text = lineOf n t; ended = false })
-  wait : framedOf h ≡ Refused 1 → last ≡ false → Way last n h (record { used = 0; text = []; ended = false })
-  end : h ≡ [] → last ≡ true → Way last n h (record { used = 0; text = endLine n; ended = true })
-  stop : (k : ℕ) → 0 < length h → framedOf h ≡ Refused k → (k ≡ 1 → last ≡ true) → Way last n h (record { used = 0; text = stopLines n k; ended = true })
+pub data Way : Bool → ℕ → List ℕ → Turn ℕ → Type 0 where
+  line : (last : Bool) (n : ℕ) (h : List ℕ) (t : Told) → frameRefusal (framedOf h) ≡ 0 → Means (payloadOf (sizeOf h) h) t
+      → Way last n h (record { used = usedOf (framedOf h); text = lineOf n t; ended = false; state = suc n })
+  wait : (n : ℕ) (h : List ℕ) → frameRefusal (framedOf h) ≡ 1 → Way false n h (record { used = 0; text = []; ended = false; state = n })
+  end : (n : ℕ) → Way true n [] (record { used = 0; text = endLine n; ended = true; state = n })
+  stop : (last : Bool) (n : ℕ) (h : List ℕ) → 0 < length h → (frameRefusal (framedOf h) ≡ 0 → ⊥) → eqb (frameRefusal (framedOf h)) 1 && not last ≡ false
+      → Way last n h (record { used = 0; text = stopLines n (frameRefusal (framedOf h)); ended = true; state = n })
 
-empty-list : (h : List ℕ) → length h ≡ 0 → h ≡ []
-empty-list [] e = refl
-empty-list (b ∷ h) e = absurd (omega arith)
+-- each way is a turn
+refused-turn : (last : Bool) (n : ℕ) (h : List ℕ) (t : Turn ℕ) → (frameRefusal (framedOf h) ≡ 0 → ⊥)
+    → t ≡ numbered n (printedRefused last n (length h) (frameRefusal (framedOf h))) → OneTurn last n h t
+unfolding printedOf
+refused-turn last n h t z q = record {
+  frame = record { used = 0; told = refusedAt (frameRefusal (framedOf h)) 0 };
+  meant = record { lent = scratch; meant = record { used = uses-none (framedOf h) z; refused = λ y. refl; whole = λ y. absurd (z y) } };
+  same = q;
+}
 
-module _ (last : Bool) (n : ℕ) (h : List ℕ) where
-  some : eqb (length h) 0 ≡ false → 0 < length h
-  some e = let f : length h ≡ 0 → ⊥ = eqb-false (length h) 0 e in omega arith
+pub way-turn : (last : Bool) (n : ℕ) (h : List ℕ) (t : Turn ℕ) → Way last n h t → OneTurn last n h t
+unfolding printedOf printedRefused
+way-turn last n h t (Way.line l m g told e w) = record {
+  frame = record { used = usedOf (framedOf h); told = told };
+  meant = record { lent = w .lent; meant = record { used = refl; refused = λ z. absurd (z e); whole = λ z. w .meant } };
+  same = simp (ne-eqb (usedOf (framedOf h)) 0 (uses-some h e));
+}
+way-turn last n h t (Way.wait m g e) = refused-turn false n h t (λ z. let i : 1 ≡ 0 = sym e ∙ z in omega arith) (simp e)
+way-turn last n h t (Way.end m) = refused-turn true n [] t (λ z. let i : 1 ≡ 0 = sym empty-waits ∙ z in omega arith) (simp empty-waits)
+way-turn last n h t (Way.stop l m g s z c) = refused-turn last n h t z (simp (c, ne-eqb (length h) 0 (λ y. omega arith)))
 
-  refused-way : (k : ℕ) → framedOf h ≡ Refused k → Way last n h (printedRefused last n (length h) k)
-  unfolding printedRefused
-  refused-way k e = go last (eqb k 1) (eqb (length h) 0) refl refl refl
-    where
-      go : (l a b : Bool) → last ≡ l → eqb k 1 ≡ a → eqb (length h) 0 ≡ b
-          → Way last n h (either (a && not l) (λ _. record { used = 0; text = []; ended = false })
-          (λ _. either b (λ _. record { used = 0; text = endLine n; ended = true }) (λ _. record { used = 0; text = stopLines n k; ended = true })))
-      go false true b p q r = Way.wait (e ∙ ap Refused (eqb-true k 1 q)) p
-      go true true true p q r = Way.end (empty-list h (eqb-true (length h) 0 r)) p
-      go true false true p q r = Way.end (empty-list h (eqb-true (length h) 0 r)) p
-      go true true false p q r = Way.stop k (some r) e (λ z. p)
-      go true false false p q r = Way.stop k (some r) e (λ z. p)
-      go false false true p q r =
-          let f : k ≡ 1 = ap frameRefusal (sym e ∙ ap framedOf (empty-list h (eqb-true (length h) 0 r)) ∙ empty-waits) in
-          absurd (eqb-false k 1 q f)
-      go false false false p q r = Way.stop k (some r) e (λ z. absurd (eqb-false k 1 q z))
+-- and each turn goes one of them
+way-all : (last : Bool) (n : ℕ) (h : List ℕ) → (t : Turn ℕ) × Way last n h t
+way-all true n [] = (_, Way.end n)
+way-all false n [] = (_, Way.wait n [] empty-waits)
+way-all last n (b ∷ s) = go (eqb r 0) last (eqb r 1) refl refl
+  where
+    h : List ℕ
+    h = b ∷ s
 
-  module _ (u : Unframed) (m : MeansFramed h u) where
-    whole-printed : (size : ℕ) → framedOf h ≡ Whole size → printedOf last n (length h) u ≡ record { used = 12 + size; text = lineOf n (u .told); ended = false }
-    unfolding printedOf
-    whole-printed size e =
-        let d : u .used ≡ 12 + size = m .meant .used ∙ ap usedOf e in
-        let f : eqb (u .used) 0 ≡ false = ne-eqb (u .used) 0 (λ z. omega arith) in
-        simp f (ap (λ (k : ℕ). record { used = k; text = lineOf n (u .told); ended = false }) d)
+    r : ℕ
+    r = frameRefusal (framedOf h)
 
-    refused-printed : (k : ℕ) → framedOf h ≡ Refused k → printedOf last n (length h) u ≡ printedRefused last n (length h) k
-    unfolding printedOf
-    refused-printed k e =
-        let d : u .used ≡ 0 = m .meant .used ∙ ap usedOf e in
-        simp (eq-eqb (u .used) 0 d) (ap (λ (t : Told). printedRefused last n (length h) (t .refusal)) (refused-told h k e u m))
+    go : (x l y : Bool) → eqb r 0 ≡ x → eqb r 1 ≡ y → (t : Turn ℕ) × Way l n h t
+    go true l y p q = let m = told-means (payloadOf (sizeOf h) h) in (_, Way.line l n h (m .0) (eqb-true r 0 p) (m .1))
+    go false true y p q = (_, Way.stop true n h (omega arith) (eqb-false r 0 p) (and-false (eqb r 1)))
+    go false false false p q = (_, Way.stop false n h (omega arith) (eqb-false r 0 p) (simp q))
+    go false false true p q = (_, Way.wait n h (eqb-true r 1 q))
 
-    printed-way : Way last n h (printedOf last n (length h) u)
-    printed-way = go (framedOf h) refl
-      where
-        go : (f : Framed) → framedOf h ≡ f → Way last n h (printedOf last n (length h) u)
-        go (Whole size) e = subst (λ (x : Printed). Way last n h x) (sym (whole-printed size e)) (Way.line size (u .told) e (whole-told h size e u m))
-        go (Refused k) e = subst (λ (x : Printed). Way last n h x) (sym (refused-printed k e)) (refused-way k e)
+turn-once : (last : Bool) (n : ℕ) (h : List ℕ) (t u : Turn ℕ) → OneTurn last n h t → OneTurn last n h u → t ≡ u
+turn-once last n h t u s r =
+    s .same ∙ ap (λ (f : Unframed). numbered n (printedOf last n (length h) f)) (framed-once h (s .frame) (r .frame) (s .meant) (r .meant)) ∙ sym (r .same)
 
-  pub turn-way : (x : Printed) → OneTurn last n h x → Way last n h x
-  turn-way x s = subst (λ (y : Printed). Way last n h y) (sym (s .same)) (printed-way (s .frame) (s .meant))
+pub turn-way : (last : Bool) (n : ℕ) (h : List ℕ) (t : Turn ℕ) → OneTurn last n h t → Way last n h t
+turn-way last n h t s =
+    let w = way-all last n h in
+    subst (λ (x : Turn ℕ). Way last n h x) (turn-once last n h (w .0) t (way-turn last n h (w .0) (w .1)) s) (w .1)
 
--- what each way adds to the text of the whole input
-module _ (last : Bool) (n : ℕ) (h t out : List ℕ) (seen : last ≡ true → t ≡ []) where
-  refused-straddles : (k : ℕ) → framedOf h ≡ Refused k → (k ≡ 1 → last ≡ true) → framedOf (h ++ t) ≡ Refused k
-  refused-straddles k e c = go (eqb k 1) refl
-    where
-      go : (a : Bool) → eqb k 1 ≡ a → framedOf (h ++ t) ≡ Refused k
-      go true q = ap (λ (l : List ℕ). framedOf (h ++ l)) (seen (c (eqb-true k 1 q))) ∙ ap framedOf (append-nil h) ∙ e
-      go false q = straddles h t (λ f. eqb-false k 1 q (ap frameRefusal (sym e ∙ f))) ∙ e
+-- so it keeps to what turns must
+within : (last : Bool) (n : ℕ) (h : List ℕ) (t : Turn ℕ) → Way last n h t → t .used ≤ length h
+within last n h t (Way.line l m g told e w) = used-within h
+within last n h t (Way.wait m g e) = omega arith
+within last n h t (Way.end m) = omega arith
+within last n h t (Way.stop l m g s z c) = omega arith
 
-  ended-prints : (x : Printed) → Way last n h x → x .ended ≡ true → Prints n (h ++ t) (x .text)
-  ended-prints x (Way.line size told e w) d = true-false (sym d)
-  ended-prints x (Way.wait e l) d = true-false (sym d)
-  ended-prints x (Way.end e l) d = rw (e, seen l) (Prints.finished n)
-  ended-prints x (Way.stop k g e c) d = stopped-prints n (h ++ t) k (refused-straddles k e c) (omega (arith, length-append h t))
+waits : (last : Bool) (n : ℕ) (h : List ℕ) (t : Turn ℕ) → Way last n h t → t .ended ≡ false → t .used ≡ 0 → (last ≡ false) × ((t .text ≡ []) × (t .state ≡ n))
+waits last n h t (Way.line l m g told e w) d y = absurd (uses-some h e y)
+waits last n h t (Way.wait m g e) d y = (refl, (refl, refl))
+waits last n h t (Way.end m) d y = true-false d
+waits last n h t (Way.stop l m g s z c) d y = true-false d
 
-  passed-prints : (x : Printed) → Way last n h x → x .ended ≡ false → (x .used ≡ 0 → ⊥) → Prints (suc n) (drop (x .used) h ++ t) out → Prints n (h ++ t) (x .text ++ out)
-  passed-prints x (Way.line size told e w) d z p =
-      framed-prints n (h ++ t) size (whole-straddles h t size e) told out (rw (payload-straddles h t size e) w) (rw (rest-straddles h t size e) p)
-  passed-prints x (Way.wait e l) d z p = absurd (z refl)
-  passed-prints x (Way.end e l) d z p = true-false d
-  passed-prints x (Way.stop k g e c) d z p = true-false d
+stays : (n : ℕ) (h p : List ℕ) (l : Bool) (t : Turn ℕ) → Way false n h t → (t .ended ≡ false → t .used ≡ 0 → ⊥) → Way l n (h ++ p) t
+stays n h p l t (Way.line k m g told e w) y =
+    let q = straddles h p (λ f. let i : 0 ≡ 1 = sym e ∙ ap frameRefusal f in omega arith) in
+    rw (← q) (Way.line l n (h ++ p) told (ap frameRefusal q ∙ e) (rw (payload-straddles h p (sizeOf h) (whole-framed h e) q) w))
+stays n h p l t (Way.wait m g e) y = absurd (y refl refl)
+stays n h p l t (Way.stop k m g s z c) y =
+    let q = straddles h p (λ f. true-false (rw f at c)) in
+    rw (← q) (Way.stop l n (h ++ p) (omega (arith, length-append h p)) (λ e. z (sym (ap frameRefusal q) ∙ e)) (simp (q, sym (and-true (eqb (frameRefusal (framedOf h)) 1)) ∙ c)))
 
-waited-none : (last : Bool) (n : ℕ) (h : List ℕ) (x : Printed) → Way last n h x → x .ended ≡ false → x .used ≡ 0 → x .text ≡ []
-waited-none last n h x (Way.line size told e w) d z = absurd (omega arith)
-waited-none last n h x (Way.wait e l) d z = refl
-waited-none last n h x (Way.end e l) d z = true-false d
-waited-none last n h x (Way.stop k g e c) d z = true-false d
-
-pub runs-print : (last : Bool) (n : ℕ) (h : List ℕ) (ps : List (List ℕ)) (out : List ℕ) → Runs last n h ps out → (last ≡ true → ps ≡ []) → Prints n (h ++ whole ps) out
-runs-print last n h ps out (Runs.ends l m g qs x s d) seen =
-    ended-prints last n h (whole ps) [] (λ e. ap whole (seen e)) x (turn-way last n h x s) d
-runs-print last n h ps out (Runs.passes l m g qs rest x s d z r) seen =
-    passed-prints last n h (whole ps) rest (λ e. ap whole (seen e)) x (turn-way last n h x s) d z
-    (runs-print last (suc n) (drop (x .used) h) ps rest r seen)
-runs-print last n h ps out (Runs.joins l m g p qs rest x s d z r) seen =
-    rw (waited-none last n h x (turn-way last n h x s) d z)
-    (rw append-assoc at (runs-print last n (h ++ p) qs rest r (λ e. let c : _≡_ {A = ℕ} 0 1 = cc (seen e) in absurd (omega arith))))
-runs-print last n h ps out (Runs.closes l m g rest x s d z r) seen =
-    rw (waited-none last n h x (turn-way last n h x s) d z) (runs-print true n h [] rest r (λ e. refl))
-
--- from the start: no bytes at hand, the first frame's number is 0
-pub pieces-print : (ps : List (List ℕ)) (out : List ℕ) → Runs false 0 [] ps out → Prints 0 (whole ps) out
-pieces-print ps out r = runs-print false 0 [] ps out r (λ e. true-false (sym e))
+pub steady : Steady OneTurn
+steady = record {
+  told = λ last n h. let w = way-all last n h in (w .0, way-turn last n h (w .0) (w .1));
+  once = turn-once;
+  within = λ last n h t s. within last n h t (turn-way last n h t s);
+  waits = λ last n h t s. waits last n h t (turn-way last n h t s);
+  stays = λ n h p l t s y. way-turn l n (h ++ p) t (stays n h p l t (turn-way false n h t s) y);
+}

@@ -1,21 +1,17 @@
 -- No second answer and room meet the statement of a turn; and where the room has 80 bytes, the bytes to be printed are the whole text of that turn.
 -- Assumes nothing.
-use mathlib.Core.Path.{_≡_, refl, sym, ap, _∙_}
-use mathlib.Core.Bool.{Bool, true, false, _&&_, not}
-use mathlib.Core.List.{List, [], _∷_}
+use mathlib.Core.{Path._≡_, Path.refl, Path.sym, Path.ap, Path._∙_, Bool.Bool, List.List, List.[], List._∷_}
 use Prim.Native.Nat.{ℕ, _+_, _≤_}
 use native.Mathlib.Omega.{arith}
-use lib.{Dec.eqb, ListN.length, ListN.take}
-use Rattle.octets.specs.{Choice.either, Bytes.putAt}
-use Rattle.octets.proofs.Writing.{put-upto}
+use lib.ListN.{length, take}
+use Rattle.octets.{specs.Bytes.putAt, proofs.Writing.put-upto}
+use Rattle.frame.specs.Frame.{framedOf, frameRefusal}
 use Rattle.forms.specs.code.Put.{Put, put, putParts}
 use Rattle.forms.proofs.Putting.{one-in}
-use Rattle.reading.specs.declared.Unframed.{Unframed}
 use Rattle.record.specs.Record.{commandIn}
-use Rattle.lines.proofs.{Meaning.framed-once, Made.few-line, Made.few-end, Made.few-stop}
-use Rattle.lines.specs.declared.Took.{Took}
-use Rattle.lines.specs.{Lines.lineOf, Lines.endLine, Lines.stopLines, Runs.OneTurn}
-use Rattle.lines.specs.Turn.{Printed, printedRefused, printedOf, Turned}
+use Rattle.turns.specs.Turns.{Turn}
+use Rattle.lines.specs.{Turn.Printed, Turn.printedOf, Turn.Turned, Runs.numbered, Runs.OneTurn, declared.Took.Took}
+use Rattle.lines.proofs.{Meaning.framed-once, Made.few-line, Made.few-end, Made.few-stop, Running.Way, Running.turn-way}
 
 module _ (s : List ℕ) (last : Bool) (number : ℕ) (before : List ℕ) where
   -- two answers print the same
@@ -39,23 +35,11 @@ module _ (s : List ℕ) (last : Bool) (number : ℕ) (before : List ℕ) where
     }
 
 -- every text is short
-refused-few : (last : Bool) (number len refusal : ℕ) → length (printedRefused last number len refusal .text) ≤ 80
-unfolding printedRefused
-refused-few last number len refusal = go (eqb refusal 1 && not last) (eqb len 0)
-  where
-    go : (a b : Bool) → length (either {A = Printed} a (λ _. record { used = 0; text = []; ended = false })
-        (λ _. either b (λ _. record { used = 0; text = endLine number; ended = true }) (λ _. record { used = 0; text = stopLines number refusal; ended = true })) .text) ≤ 80
-    go true b = omega arith
-    go false true = few-end number
-    go false false = few-stop number refusal
-
-printed-few : (last : Bool) (number len : ℕ) (u : Unframed) → length (printedOf last number len u .text) ≤ 80
-unfolding printedOf
-printed-few last number len u = go (eqb (u .used) 0)
-  where
-    go : (a : Bool) → length (either {A = Printed} a (λ _. printedRefused last number len (u .told .refusal)) (λ _. record { used = u .used; text = lineOf number (u .told); ended = false }) .text) ≤ 80
-    go true = refused-few last number len (u .told .refusal)
-    go false = few-line number (u .told .refusal) (commandIn (u .told .message .body)) (u .told .message .«op_id»)
+few : (last : Bool) (n : ℕ) (h : List ℕ) (t : Turn ℕ) → Way last n h t → length (t .text) ≤ 80
+few last n h t (Way.line l m g told e w) = few-line n (told .refusal) (commandIn (told .message .body)) (told .message .«op_id»)
+few last n h t (Way.wait m g e) = omega arith
+few last n h t (Way.end m) = few-end n
+few last n h t (Way.stop l m g s z c) = few-stop n (frameRefusal (framedOf h))
 
 module _ (s : List ℕ) (last : Bool) (number : ℕ) (before after : List ℕ) (r : Took) (a : Turned s last number before after r) (h : 80 ≤ length before) where
   abbrev text : List ℕ
@@ -63,14 +47,14 @@ module _ (s : List ℕ) (last : Bool) (number : ℕ) (before after : List ℕ) (
 
   shown : take (r .length) after ≡ text
   shown =
-      let few : length text ≤ 80 = printed-few last number (length s) (a .frame) in
+      let e : length text ≤ 80 = few last number s _ (turn-way last number s _ (record { frame = a .frame; meant = a .meant; same = refl })) in
       ap (λ (o : Put). take (o .next) (o .room))
       (a .shows .printed ∙ sym (one-in (put before 0) text (omega arith) (put (putAt before 0 text) (0 + length text)) refl refl))
       ∙ put-upto before 0 text (omega arith)
 
-  pub one-turn : OneTurn last number s (record { used = r .used; text = take (r .length) after; ended = r .ended })
+  pub one-turn : OneTurn last number s (numbered number (record { used = r .used; text = take (r .length) after; ended = r .ended }))
   one-turn = record {
     frame = a .frame;
     meant = a .meant;
-    same = λ i. record { used = a .shows .used i; text = shown i; ended = a .shows .ended i };
+    same = λ i. numbered number (record { used = a .shows .used i; text = shown i; ended = a .shows .ended i });
   }

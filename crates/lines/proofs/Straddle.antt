@@ -1,6 +1,6 @@
 -- A frame that is whole in a piece is the same frame in the whole input, and a refusal by 2 or 3 stays: only 1 waits for more bytes, and never for
 -- more than 4,108. By the definition's tests, one after another. Assumes nothing.
-use mathlib.Core.Path.{_≡_, refl, ap, _∙_}
+use mathlib.Core.Path.{_≡_, refl, sym, ap, _∙_}
 use mathlib.Core.Bool.{Bool, true, false}
 use mathlib.Core.List.{List, [], _∷_, _++_}
 use Prim.Native.Nat.{ℕ, _+_, _≤_, _<_}
@@ -12,7 +12,7 @@ use Rattle.octets.specs.{Choice.either, Size.isSize}
 use Rattle.octets.proofs.{Ranges.true-false, Sizes.sized-most, Places.same-little}
 use Rattle.frame.specs.declared.Framed.the-variants.{Whole, Refused}
 use Rattle.frame.specs.Frame.{identifier, agrees, framedOf, payloadOf, sizeOf}
-use Rattle.frame.proofs.Format.{fits}
+use Rattle.frame.proofs.Format.{whole-size, fits}
 
 -- a byte that differs still does
 strange-more : (l s t : List ℕ) → agrees l s ≡ false → agrees l (s ++ t) ≡ false
@@ -93,21 +93,13 @@ module _ (a b : List ℕ) where
       by-identifier false e = strange-stays e
       by-identifier true e = by-length e (ltb (length a) 12) refl
 
-  -- its payload, and what is behind it
-  module _ (n : ℕ) (e : framedOf a ≡ Whole n) where
-    whole-not-one : framedOf a ≡ Refused 1 → ⊥
-    whole-not-one f = let z : _≡_ {A = ℕ} 0 1 = cc in omega arith
-
-    pub whole-straddles : framedOf (a ++ b) ≡ Whole n
-    whole-straddles = straddles whole-not-one ∙ e
-
-    pub payload-straddles : payloadOf n (a ++ b) ≡ payloadOf n a
-    payload-straddles =
-        ap (take n) (drop-append-le 12 a b (omega (arith, fits a n e)))
-        ∙ take-append-le n (drop 12 a) b (omega (arith, length-drop 12 a, fits a n e))
-
-    pub rest-straddles : drop (12 + n) (a ++ b) ≡ drop (12 + n) a ++ b
-    rest-straddles = drop-append-le (12 + n) a b (fits a n e)
+  -- and its payload
+  pub payload-straddles : (n : ℕ) → framedOf a ≡ Whole n → framedOf (a ++ b) ≡ framedOf a → payloadOf (sizeOf (a ++ b)) (a ++ b) ≡ payloadOf (sizeOf a) a
+  payload-straddles n e q =
+      ap (λ (k : ℕ). payloadOf k (a ++ b)) (whole-size (a ++ b) n (q ∙ e))
+      ∙ ap (take n) (drop-append-le 12 a b (omega (arith, fits a n e)))
+      ∙ take-append-le n (drop 12 a) b (omega (arith, length-drop 12 a, fits a n e))
+      ∙ ap (λ (k : ℕ). payloadOf k a) (sym (whole-size a n e))
 
 -- with 4,108 bytes at hand no frame is incomplete
 tests-complete : (a b c d : Bool) (m : ℕ) → b ≡ false → (c ≡ true → d ≡ false) → either a (λ _. either b (λ _. Refused 1) (λ _. either c (λ _. either d (λ _. Refused 1) (λ _. Whole m)) (λ _. Refused 3))) (λ _. Refused 2) ≡ Refused 1 → ⊥

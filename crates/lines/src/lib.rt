@@ -1,6 +1,7 @@
 // What the program prints of the frames that arrive, turn by turn.
 mod text;
 
+pub use text::put_counted;
 ghost use mathlib.Core.{Path._≡_, Bool._&&_, Bool.not, List.[], List._∷_};
 ghost use lib.Dec.{eqb};
 ghost use Rattle.forms.specs.code.Put.{Put, put, putParts};

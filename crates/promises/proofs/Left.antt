@@ -39,7 +39,7 @@ use Rattle.chozukpima.specs.Sessions.{Returned, returned, stepAnswer, arriveRet
 use Rattle.chozukpima.proofs.Kept.{refusal-back}
 
 -- a byte other than 15, and an answer that has it for its refusal
-abbrev isOther : ℕ → Bool
+abbrev pub isOther : ℕ → Bool
 isOther n = ltb n 256 && not (eqb n 15)
 
 never : (n happened v : ℕ) → T (isOther n) → answerRefusal (packed n happened v) ≡ 15 → ⊥
@@ -64,7 +64,7 @@ written-other m d room e =
     (framed-other (frameFor m d) room)
 
 -- a step's own refusal
-abbrev Other : Outcome → Type 0
+abbrev pub Other : Outcome → Type 0
 Other o = T (isOther (ownRefusal o))
 
 called-other : (d room : List ℕ) (o : Outcome) → Other o → T (isOther (calledBy d room o .answer .refusal))
@@ -110,7 +110,7 @@ module _ (s : Session) (m : Message) (h : Host) where
         (by-choice Other (operationBy (λ o. o .cmp) stationStarts c) _ _ (λ o. at-cmp (entryPlace z (o .start) (s .station)))
         (by-choice Other (operationBy (λ o. o .rsp) centreStarts c) _ _ (λ o. at-rsp o (entryPlace z (o .start) (s .centre))) tt))
 
-  in-state : (x : State) → Other (inState x s m h)
+  pub in-state : (x : State) → Other (inState x s m h)
   in-state Waiting = waiting
   in-state Connecting = connecting (commandIn (m .body)) (m .«op_id»)
   in-state Open = operating _ (m .«op_id») (commandIn (m .body))

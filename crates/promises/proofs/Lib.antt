@@ -10,3 +10,7 @@ pub mod Limits
 pub mod Needed
 pub mod Left
 pub mod RoundTrip
+pub mod Lettered
+pub mod Roomy
+pub mod Refusing
+pub mod Replaying

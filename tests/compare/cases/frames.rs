@@ -8,6 +8,11 @@ use crate::reference::write;
 use crate::stream::Stream;
 
 pub fn one(stream: &mut Stream, random: &mut Random) {
+    stream.frame(&any(random));
+}
+
+/// A frame, mostly with a fault or with bytes missing or left over.
+pub fn any(random: &mut Random) -> Vec<u8> {
     let mut bytes = match random.below(4) {
         0 => write::write(&values::any(random)),
         _ => sized(random),
@@ -20,7 +25,7 @@ pub fn one(stream: &mut Stream, random: &mut Random) {
         4 => damage(random, &mut bytes),
         _ => {}
     }
-    stream.frame(&bytes);
+    bytes
 }
 
 /// A frame that states a size at the limits, and holds about as much.

@@ -1,30 +1,33 @@
-//! The cases: what is handed to the calls, made from a seed.
+//! The cases: what is handed to the calls, made from a seed. The modules that are pub make tests/replay's days, too.
 
 mod begins;
-mod bytes;
-mod cons;
+pub mod bytes;
+pub mod cons;
 mod downlinks;
 mod examples;
 mod frames;
 mod images;
-mod limits;
+pub mod limits;
 mod near;
-mod node;
-mod payloads;
+pub mod node;
+pub mod payloads;
 mod queues;
-mod random;
+pub mod random;
 mod runs;
-mod sessions;
-mod spoil;
+pub mod sessions;
+pub mod spoil;
 mod sweep_downlinks;
 mod sweep_elements;
 mod sweep_fields;
 mod sweep_images;
+mod sweep_numbers;
 mod sweep_queues;
+mod sweep_records;
 mod sweep_sessions;
 mod sweep_tables;
 mod tables;
-mod values;
+mod traces;
+pub mod values;
 mod writes;
 
 use crate::stream::Stream;
@@ -42,6 +45,8 @@ pub fn all(stream: &mut Stream, seed: u64, messages: u64) {
     sweep_sessions::all(stream, &mut random);
     sweep_queues::all(stream, &mut random);
     sweep_tables::all(stream);
+    sweep_numbers::all(stream, &mut random);
+    sweep_records::all(stream, &mut random);
     let mut queues = Queues::new();
     while stream.messages < messages {
         round(stream, &mut random, &mut queues);
@@ -60,4 +65,6 @@ fn round(stream: &mut Stream, random: &mut Random, queues: &mut Queues) {
     queues.run(stream, random);
     (0..10).for_each(|_| tables::one(stream, random));
     tables::run(stream, random);
+    (0..4).for_each(|_| traces::one(stream, random));
+    traces::run(stream, random);
 }

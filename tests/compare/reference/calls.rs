@@ -10,6 +10,7 @@ use super::record::Record;
 use super::refusal::*;
 use super::session::{Happened, Host};
 use super::table::{self, Row};
+use super::trace;
 
 fn answer(happened: u8, value: usize) -> u64 {
     u64::from(happened) << 8 | (value as u64) << 16
@@ -41,11 +42,15 @@ pub fn read(payload: &[u8], lent: &mut Image) -> u64 {
     }))
 }
 
+/// At the start of the room, where the bytes must fit: "20 output shorter than the message needs".
+fn fill(room: &mut [u8], bytes: &[u8]) -> Result<usize, Refusal> {
+    room.get_mut(..bytes.len()).ok_or(ROOM_TOO_SHORT)?.copy_from_slice(bytes);
+    Ok(bytes.len())
+}
+
 /// "it writes a whole frame at the start of the room, and the rest of the room stays"
 fn put(record: &Record, room: &mut [u8]) -> Result<usize, Refusal> {
-    let frame = super::write::write(record);
-    room.get_mut(..frame.len()).ok_or(ROOM_TOO_SHORT)?.copy_from_slice(&frame);
-    Ok(frame.len())
+    fill(room, &super::write::write(record))
 }
 
 /// "Writing: 15 before 20."
@@ -246,4 +251,32 @@ pub fn withdraw(columns: &mut Columns, meter: u64) -> u64 {
 pub fn uplink(columns: &mut Columns, meter: u64, counter: u32, station: u64) -> u64 {
     let credited = columns.call(|rows| table::uplink(rows, meter, counter, station));
     answered(credited.map(|(credit, heard, row)| answer(credit as u8, heard as usize + 256 * row)))
+}
+
+/// "The start of a trace, at the start of the room: the value is its length, 1. Refusal 20."
+pub fn trace_start(room: &mut [u8]) -> u64 {
+    answered(fill(room, &trace::start()).map(|length| answer(0, length)))
+}
+
+/// "A record at the start of the room: the value is its length." The gap "is added to *time where the call is not refused".
+pub fn record(time: &mut u64, gap: u64, station: u64, frame: &[u8], room: &mut [u8]) -> u64 {
+    let mut write = || {
+        let (sum, bytes) = trace::record(*time, gap, station, frame)?;
+        let length = fill(room, &bytes)?;
+        *time = sum;
+        Ok(answer(0, length))
+    };
+    answered(write())
+}
+
+pub fn trace_open(bytes: &[u8]) -> u64 {
+    answered(trace::open(bytes).map(|length| answer(0, length)))
+}
+
+/// The value is the record's length and, 2^16 times, its frame's length and, 2^32 times, its station.
+pub fn recorded(time: &mut u64, bytes: &[u8]) -> u64 {
+    answered(trace::recorded(*time, bytes).map(|record| {
+        *time = record.time;
+        answer(0, record.length | record.frame.len() << 16 | (record.station as usize) << 32)
+    }))
 }

@@ -1,4 +1,4 @@
-//! Why a call is refused: its number in document 01's table, or in document 02's Q-2.
+//! Why a call is refused: its number in document 01's table, or in document 02's.
 //! "A refusal returns its number, the byte place for 4–10, and zeros besides."
 
 #[derive(Clone, Copy, Debug, PartialEq, Eq)]
@@ -48,3 +48,8 @@ pub const QUEUE_ID_THERE: Refusal = plain(27);
 pub const QUEUE_FULL: Refusal = plain(28);
 pub const NO_QUEUE_ID: Refusal = plain(29);
 pub const NOTHING_SUITABLE: Refusal = plain(30);
+pub const NOT_A_TRACE: Refusal = plain(31);
+pub const NOT_SHORTEST: Refusal = plain(32);
+pub const INPUT_ENDS: Refusal = plain(33);
+pub const TIME_SUM: Refusal = plain(34);
+pub const NOT_ONE_FRAME: Refusal = plain(35);

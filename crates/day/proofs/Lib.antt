@@ -1,0 +1,11 @@
+pub mod Texts
+pub mod Turning
+pub mod Enrolling
+pub mod Recording
+pub mod EnrolWays
+pub mod TraceWays
+pub mod Steadying
+pub mod Printing
+pub mod Settled
+pub mod Waiting
+pub mod Program

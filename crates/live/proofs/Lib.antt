@@ -1,0 +1,11 @@
+pub mod Alike
+pub mod Taken
+pub mod Beside
+pub mod Played
+pub mod Places
+pub mod Zeros
+pub mod Settled
+pub mod Abreast
+pub mod Replayed
+pub mod Printed
+pub mod Days

@@ -1,0 +1,5 @@
+pub mod Crediting
+pub mod Arriving
+pub mod Playing
+pub mod Framing
+pub mod Settled

@@ -1,0 +1,10 @@
+pub mod Reading
+pub mod Recording
+pub mod Stepping
+pub mod Apart
+pub mod Entries
+pub mod Goes
+pub mod Settled
+pub mod Records
+pub mod Back
+pub mod Whole
