@@ -1,4 +1,6 @@
 // A command's fields one after the other, as document 01 lists them, each at its place in the bytes: the gravest fault, and the record.
+#![tactic(auto)]
+
 mod connect;
 mod downlink;
 mod part;

@@ -1,4 +1,6 @@
 // What a host program in C calls: numbers and byte slices in, one number out. include/chozukpima.h declares it.
+#![tactic(auto)]
+
 mod answer;
 mod downlinks;
 mod messages;

@@ -1,5 +1,7 @@
 // What the program makes of a recorded day, turn by turn: enrolments, the start of a trace, its records. Each turn is handed the bytes at hand and told
 // whether they are the last.
+#![tactic(auto)]
+
 mod text;
 
 ghost use mathlib.Core.{Path.◌≡◌, Bool.false, List.[], List.◌∷◌};

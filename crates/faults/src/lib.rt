@@ -1,4 +1,6 @@
 // Which of a record's fields may not be written: document 01's 15, with the field's number.
+#![tactic(auto)]
+
 mod downlink;
 mod part;
 

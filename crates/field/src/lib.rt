@@ -1,4 +1,6 @@
 // The value of one field, read at its place in a payload under its kind.
+#![tactic(auto)]
+
 mod array;
 mod counters;
 mod flag;

@@ -1,4 +1,6 @@
 // One BSSCI frame at the start of the bytes that arrived: identifier, size, payload.
+#![tactic(auto)]
+
 ghost use Rattle.std.specs.Prelude.{◌≡◌};
 ghost use Rattle.frame.specs.Frame.{identifier, agrees, framed_of, payload_of};
 

@@ -1,5 +1,7 @@
 // Reads frames from standard input and prints a line for each (document 01, "Program"). What is printed stands in `lines::turn`; here turns follow one
 // another. A read or a write that fails ends the run without the last line.
+#![tactic(auto)]
+
 use hand::Hand;
 use libc::STDIN_FILENO;
 use lines::Took;

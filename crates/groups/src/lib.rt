@@ -1,4 +1,6 @@
 // Numbers in groups of seven bits, lowest first, in the shortest form: read from bytes at a place, and written into a lent room.
+#![tactic(auto)]
+
 mod put;
 mod refusals;
 

@@ -1,6 +1,8 @@
 // Bytes at hand: a buffer that is filled in pieces from a descriptor, and text that waits to be written. What a program does with the bytes stands in its
 // turns; here what is left of a piece goes to the front of the next. A read or a write that fails ends the run with a line on standard error: a program has no
 // exit status here, so that a script can tell by it.
+#![tactic(auto)]
+
 ghost use mathlib.Core.{Path.◌≡◌, Bool.false, Bool.◌&&◌, Bool.not};
 ghost use Rattle.std.specs.Prelude.{ℕ, ◌+◌, ◌-◌, ◌≤◌, ◌<◌, min};
 ghost use lib.{Dec.eqb, ListN.length, ListN.take, ListN.get_or};

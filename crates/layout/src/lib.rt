@@ -1,4 +1,6 @@
 // Records as they lie in a C host's memory, and back. No call has a requirement.
+#![tactic(auto)]
+
 mod leaf;
 mod put;
 mod taken;

@@ -1,4 +1,6 @@
 // What the program prints of the frames that arrive, turn by turn.
+#![tactic(auto)]
+
 mod text;
 
 ghost use mathlib.Core.{Path.◌≡◌, Bool.◌&&◌, Bool.not, List.[], List.◌∷◌};

@@ -1,4 +1,6 @@
 // The parts of which the records of messages are made.
+#![tactic(auto)]
+
 pub mod listed;
 
 // A field that may be absent: zero where it is.

@@ -1,4 +1,6 @@
 // The meter table: five columns lent by the caller, one row a meter. Meters are told apart by their long address (EUI) alone.
+#![tactic(auto)]
+
 ghost use Rattle.std.specs.Prelude.{◌≡◌, ◌<◌};
 ghost use Rattle.meters.specs.{Rows.hear_of, Code.Store.Even};
 ghost use Rattle.meters.specs.Columns.{columns, told_place, told_credit, find_on, enrol_on, withdraw_on, uplink_on};

@@ -1,4 +1,6 @@
 // The key and the command that a name is, by its length and then by one or two numbers that its bytes write. Every call takes any bytes.
+#![tactic(auto)]
+
 ghost use Rattle.std.specs.Prelude.{◌≡◌, ◌≤◌, length};
 ghost use Rattle.octets.specs.Number.{big_at, if_there};
 ghost use Rattle.names.specs.{Names.command_of, Code.Slots.slot_of};

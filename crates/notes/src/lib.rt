@@ -1,4 +1,6 @@
 // Where the value of each key stands in a payload: one pass over the outer map's pairs, which is also the walk over them.
+#![tactic(auto)]
+
 mod pass;
 
 ghost use mathlib.Core.{Path.◌≡◌, Bool.true};
@@ -57,8 +59,7 @@ fn opened_map(s: &[u8]) -> Noted
     }
     let from = 1 + wide;
     let n = h.more + (length_at(s, 1, wide) as usize);
-    let leads = walk::table::leads();
-    pass_pairs(s, &leads, from, n)
+    pass_pairs(s, from, n)
 }
 
 // Instead of a command's number: there is no one text. One less is a text that names none.

@@ -3,7 +3,6 @@ ghost use mathlib.Core.{Path.◌≡◌, Bool.true};
 ghost use Rattle.std.specs.Prelude.{◌≤◌, length};
 ghost use Rattle.element.specs.{Code.Items.items_of, Code.At.body_from};
 ghost use Rattle.names.specs.Code.Slots.{slot_of};
-ghost use Rattle.walk.specs.Code.Table.{IsTable};
 ghost use Rattle.message.specs.Code.Notes.{key_at, note_of, notes_of, unnoted};
 ghost use Rattle.notes.specs.Code.Noted.{broken_at, IsKey};
 
@@ -12,8 +11,8 @@ use element::Step;
 use walk::steps::{key, value};
 
 // n pairs from a place on, behind the outer map's head.
-pub fn pass_pairs(s: &[u8], leads: &[u8; 256], from: usize, n: usize) -> Noted
-    requires { (length s.now ≤ 4096) × IsTable leads.now }
+pub fn pass_pairs(s: &[u8], from: usize, n: usize) -> Noted
+    requires { length s.now ≤ 4096 }
     ensures walk { result.step ≡ items_of s.now 7 true n from 1 }
     ensures places { result.places ≡ notes_of s.now n from 1 unnoted }
 {
@@ -22,14 +21,14 @@ pub fn pass_pairs(s: &[u8], leads: &[u8; 256], from: usize, n: usize) -> Noted
     let mut x = from;
     let mut c: usize = 1;
     while 0 < k {
-        match key(s, leads, x, c, 7) {
+        match key(s, x, c, 7) {
             Step::Broken { number, place } => {
                 return Noted {
                     step: Step::Broken { number, place },
                     places: at,
                 };
             }
-            Step::Next { at: q, count: d } => match value(s, leads, q, d, 7) {
+            Step::Next { at: q, count: d } => match value(s, q, d, 7) {
                 Step::Broken { number, place } => {
                     return Noted {
                         step: Step::Broken { number, place },

@@ -1,4 +1,6 @@
 // A recorded frame played through its station's session and the meter table, by the calls that a host makes with it.
+#![tactic(auto)]
+
 ghost use mathlib.Core.{Path.◌≡◌, List.List};
 ghost use Rattle.std.specs.Prelude.{ℕ, ◌*◌, ◌<◌, length};
 ghost use Rattle.session.specs.Image.{session_size};

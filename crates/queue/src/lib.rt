@@ -1,4 +1,6 @@
 // The downlink queue of a station, in lent memory: 32 places, each a record of dlDataQue and its lent bytes. No call has a requirement.
+#![tactic(auto)]
+
 mod lookup;
 mod rank;
 mod refusals;

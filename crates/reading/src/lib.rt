@@ -1,4 +1,6 @@
 // One payload, read: the walk and the places of its values, then its command, its fields and its record.
+#![tactic(auto)]
+
 ghost use Rattle.std.specs.Prelude.{◌≡◌, ◌-◌, ◌/◌, ◌≤◌, min, length, take};
 ghost use Rattle.octets.specs.Bytes.{put_at};
 ghost use Rattle.record.specs.Meant.{Answered, refused_at, lent_size, Meant};

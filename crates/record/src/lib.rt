@@ -1,4 +1,6 @@
 // The record of a message: its opId, and what its command has behind it. Long bytes are lent beside it, and the record has how many they are.
+#![tactic(auto)]
+
 ghost use Rattle.std.specs.Prelude.{◌≡◌};
 ghost use Rattle.record.specs.Record.{command_in};
 

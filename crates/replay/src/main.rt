@@ -1,5 +1,7 @@
 // Plays a recorded day again: `replay TRACE ENROLMENTS` prints a line for each reading that is new to the meter table (document 02, Q-3). What is done with
 // the bytes stands in `day`; here the two files are read in pieces, the enrolments first, and turns follow one another.
+#![tactic(auto)]
+
 mod enrolments;
 mod files;
 mod progress;

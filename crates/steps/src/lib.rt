@@ -1,5 +1,7 @@
 // The calls of a session, stepped where it lies: in the bytes that the host lends. A step reads what it looks at, writes its reply into the lent room
 // if it has one, and stores what it changes only then, so that 20 is last and no step.
+#![tactic(auto)]
+
 mod bytes;
 mod connect;
 mod happened;

@@ -1,4 +1,6 @@
 // A trace of what arrived: its start and its records, read from bytes and written into a lent room.
+#![tactic(auto)]
+
 mod reader;
 mod recorder;
 mod refusals;

@@ -1,5 +1,7 @@
 // Runs the public MessagePack vectors on standard input (vectors/README.md has the form of a line), and document 01's
 // examples of limits. Prints a line for each wrong answer, and a summary.
+#![tactic(auto)]
+
 mod limits;
 mod payload;
 mod text;

@@ -1,10 +1,7 @@
 pub mod Leads
-pub mod Tables
 pub mod Sizes
 pub mod Quick
-pub mod Entries
 pub mod Elements
 pub mod Turns
 pub mod Runs
-pub mod Simples
 pub mod Outermost

@@ -27,29 +27,29 @@ use Rattle.walk.proofs.Sizes.{size_low, size_text, size_byte, size_number, size_
 -- the span that r tells of
 abbrev told_span : ℕ → ℕ → Span
 told_span at r =
-    either (ltb r 128) (λ _. Ends (at + r))
-    (λ _. either (ltb r 160) (λ _. Holds (at + 1) (r - 128) true) (λ _. Holds (at + 1) (r - 160) false))
+    either (ltb r 64) (λ _. Ends (at + r))
+    (λ _. either (ltb r 128) (λ _. Holds (at + 1) (r - 64) true) (λ _. Holds (at + 1) (r - 128) false))
 
-told_span_lem : (s : List ℕ) (at : ℕ) → at < length s → (c : Shape) (w m r : ℕ) → r ≡ quick_by c w m → m ≤ 31 → (r ≡ 0 → ⊥) → (r < 128 → r ≤ length s - at)
+told_span_lem : (s : List ℕ) (at : ℕ) → at < length s → (c : Shape) (w m r : ℕ) → r ≡ quick_by c w m → m ≤ 31 → (r ≡ 0 → ⊥) → (r < 64 → r ≤ length s - at)
     → span_by s at (row c w m) ≡ told_span at r
 unfolding big_at body_of
 told_span_lem s at h Never w m r e k n l = absurd (n e)
 told_span_lem s at h Plain zero m r e k n l =
     let f = l (omega arith) in
-    simp (le-leb (at + 1 + 0) (length s) (omega arith), le-leb (m + 0) (length s - (at + 1 + 0)) (omega arith), lt-ltb r 128 (omega arith))
+    simp (le-leb (at + 1 + 0) (length s) (omega arith), le-leb (m + 0) (length s - (at + 1 + 0)) (omega arith), lt-ltb r 64 (omega arith))
     (ap (λ (x : ℕ). Ends x) (omega arith))
 told_span_lem s at h Plain (suc w) m r e k n l = absurd (n e)
 told_span_lem s at h Text zero m r e k n l =
     let f = l (omega arith) in
-    simp (le-leb (at + 1 + 0) (length s) (omega arith), le-leb (m + 0) (length s - (at + 1 + 0)) (omega arith), lt-ltb r 128 (omega arith))
+    simp (le-leb (at + 1 + 0) (length s) (omega arith), le-leb (m + 0) (length s - (at + 1 + 0)) (omega arith), lt-ltb r 64 (omega arith))
     (ap (λ (x : ℕ). Ends x) (omega arith))
 told_span_lem s at h Text (suc w) m r e k n l = absurd (n e)
 told_span_lem s at h Array zero m r e k n l =
-    simp (le-leb (at + 1 + 0) (length s) (omega arith), le-ltb r 128 (omega arith), le-ltb r 160 (omega arith))
+    simp (le-leb (at + 1 + 0) (length s) (omega arith), le-ltb r 64 (omega arith), le-ltb r 128 (omega arith))
     (ap₂ (λ (x y : ℕ). Holds x y false) (omega arith) (omega arith))
 told_span_lem s at h Array (suc w) m r e k n l = absurd (n e)
 told_span_lem s at h Map zero m r e k n l =
-    simp (le-leb (at + 1 + 0) (length s) (omega arith), le-ltb r 128 (omega arith), lt-ltb r 160 (omega arith))
+    simp (le-leb (at + 1 + 0) (length s) (omega arith), le-ltb r 64 (omega arith), lt-ltb r 128 (omega arith))
     (ap₂ (λ (x y : ℕ). Holds x y true) (omega arith) (omega arith))
 told_span_lem s at h Map (suc w) m r e k n l = absurd (n e)
 
@@ -63,12 +63,12 @@ chosen true true true q r e z = (refl, λ u. refl, e)
 
 -- where the numbers of a map and of an array begin, and which of them are a map's and an array's
 abbrev pub base : Bool → ℕ
-base true = 128
-base false = 160
+base true = 64
+base false = 128
 
 abbrev pub Opened : Bool → ℕ → Type 0
-Opened true r = r < 160
-Opened false r = 160 ≤ r
+Opened true r = r < 128
+Opened false r = 128 ≤ r
 
 -- told with so many elements counted, or with more
 module _ (s : List ℕ) (left : ℕ) (role : Role) (at count more r : ℕ) (l : count ≤ more) (e : r ≡ quick_at s left role at more) (z : r ≡ 0 → ⊥) where
@@ -78,17 +78,17 @@ module _ (s : List ℕ) (left : ℕ) (role : Role) (at count more r : ℕ) (l : 
   abbrev lead : ℕ
   lead = quick_of (get_or s at 0)
 
-  parts : (eqb (fault_of s left role at more) 0 ≡ true) × (ltb lead 128 ≡ true → leb lead (length s - at) ≡ true) × (r ≡ lead)
+  parts : (eqb (fault_of s left role at more) 0 ≡ true) × (ltb lead 64 ≡ true → leb lead (length s - at) ≡ true) × (r ≡ lead)
   unfolding quick_at
-  parts = chosen (eqb (fault_of s left role at more) 0) (ltb lead 128) (leb lead (length s - at)) lead r e z
+  parts = chosen (eqb (fault_of s left role at more) 0) (ltb lead 64) (leb lead (length s - at)) lead r e z
 
   sound : fault_of s left role at count ≡ 0
   sound =
       let f = fault_none s left role at more (eqb-true (fault_of s left role at more) 0 parts.0) in
       none_fault s left role at count (record { there = f.there; used = f.used; few = omega (arith, f.few); deep = f.deep; suits = f.suits })
 
-  inside : r < 128 → r ≤ length s - at
-  inside h = rw parts.2 (leb-true lead (length s - at) (parts.1 (lt-ltb lead 128 (rw parts.2 at h))))
+  inside : r < 64 → r ≤ length s - at
+  inside h = rw parts.2 (leb-true lead (length s - at) (parts.1 (lt-ltb lead 64 (rw parts.2 at h))))
 
   by_lead : element_of s left role at count ≡ spanned (element_of s (left - 1)) (told_span at r) at (count + 1)
   unfolding span_of quick_of
@@ -98,14 +98,14 @@ module _ (s : List ℕ) (left : ℕ) (role : Role) (at count more r : ℕ) (l : 
       (told_span_lem s at (fault_none s left role at count sound).there head.shape head.wide head.more r parts.2 (head_more (get_or s at 0)) z inside)
 
   -- an element without parts: the walk goes on behind it
-  pub quick_short : r < 128 → element_of s left role at count ≡ Next (at + r) (count + 1)
-  quick_short h = by_lead ∙ simp (lt-ltb r 128 h)
+  pub quick_short : r < 64 → element_of s left role at count ≡ Next (at + r) (count + 1)
+  quick_short h = by_lead ∙ simp (lt-ltb r 64 h)
 
   -- a map or an array: the walk goes on with what it holds
-  pub quick_holds : (keyed : Bool) → 128 ≤ r → Opened keyed r → element_of s left role at count ≡ items_of s (left - 1) keyed (r - base keyed) (at + 1) (count + 1)
+  pub quick_holds : (keyed : Bool) → 64 ≤ r → Opened keyed r → element_of s left role at count ≡ items_of s (left - 1) keyed (r - base keyed) (at + 1) (count + 1)
   unfolding items_of
-  quick_holds true g h = by_lead ∙ simp (le-ltb r 128 g, lt-ltb r 160 h)
-  quick_holds false g h = by_lead ∙ simp (le-ltb r 128 g, le-ltb r 160 h)
+  quick_holds true g h = by_lead ∙ simp (le-ltb r 64 g, lt-ltb r 128 h)
+  quick_holds false g h = by_lead ∙ simp (le-ltb r 64 g, le-ltb r 128 h)
 
 -- the answers of the code: 0 with its reason, or what the lead byte tells
 module _ (s : List ℕ) (left : ℕ) (role : Role) (at count : ℕ) where
@@ -131,20 +131,20 @@ module _ (s : List ℕ) (left : ℕ) (role : Role) (at count : ℕ) where
       go true = e
       go false = refl
 
-  pub quick_cut : (n : ℕ) → n ≡ quick_of (get_or s at 0) → n < 128 → length s - at < n → 0 ≡ quick_at s left role at count
-  quick_cut n e k l = either_way (rw (← e) (sym (simp (lt-ltb n 128 k, lt-leb n (length s - at) l))))
+  pub quick_cut : (n : ℕ) → n ≡ quick_of (get_or s at 0) → n < 64 → length s - at < n → 0 ≡ quick_at s left role at count
+  quick_cut n e k l = either_way (rw (← e) (sym (simp (lt-ltb n 64 k, lt-leb n (length s - at) l))))
 
   none_told : 0 ≡ quick_of (get_or s at 0) → 0 ≡ quick_at s left role at count
   none_told e = either_way (rw (← e) (sym (simp (le-leb 0 (length s - at) (omega arith)))))
 
   module _ (n : ℕ) (f : fault_of s left role at count ≡ 0) (e : n ≡ quick_of (get_or s at 0)) where
-    fits : n < 128 → n ≤ length s - at → n ≡ quick_at s left role at count
+    fits : n < 64 → n ≤ length s - at → n ≡ quick_at s left role at count
     unfolding quick_at
-    fits k l = rw (f, ← e) (sym (simp (lt-ltb n 128 k, le-leb n (length s - at) l)))
+    fits k l = rw (f, ← e) (sym (simp (lt-ltb n 64 k, le-leb n (length s - at) l)))
 
-    opens : 128 ≤ n → n ≡ quick_at s left role at count
+    opens : 64 ≤ n → n ≡ quick_at s left role at count
     unfolding quick_at
-    opens k = rw (f, ← e) (sym (simp (le-ltb n 128 k)))
+    opens k = rw (f, ← e) (sym (simp (le-ltb n 64 k)))
 
 -- n bytes, where so many are there
 pub within_not : (n rest : ℕ) → rest < n → 0 ≡ either (leb n rest) (λ _. n) (λ _. 0)
@@ -153,31 +153,28 @@ within_not n rest h = sym (simp (lt-leb n rest h))
 pub within_is : (n rest : ℕ) → n ≤ rest → n ≡ either (leb n rest) (λ _. n) (λ _. 0)
 within_is n rest h = sym (simp (le-leb n rest h))
 
--- n told, where so many bytes are there from the lead byte on
-module _ (rest q n : ℕ) (e : n ≡ q) where
-  pub told_within : n < 128 → (r : ℕ) → r ≡ either (leb n rest) (λ _. n) (λ _. 0) → r ≡ present rest q
-  told_within k r f = f ∙ rw (← e) (sym (simp (lt-ltb n 128 k)))
+-- what a lead byte tells, where so many bytes are there from it on
+module _ (b rest n : ℕ) (e : n ≡ quick_of b) where
+  pub told_within : n < 64 → (r : ℕ) → r ≡ either (leb n rest) (λ _. n) (λ _. 0) → r ≡ present rest (quick_of b)
+  told_within k r f = f ∙ rw (← e) (sym (simp (lt-ltb n 64 k)))
 
-  pub told_opens : 128 ≤ n → n ≡ present rest q
-  told_opens k = rw (← e) (sym (simp (le-ltb n 128 k)))
-
-pub told_none : (rest q : ℕ) → 0 ≡ q → 0 ≡ present rest q
-told_none rest q e = rw (← e) (sym (simp (le-leb 0 rest (omega arith))))
+  pub told_opens : 64 ≤ n → n ≡ present rest (quick_of b)
+  told_opens k = rw (← e) (sym (simp (le-ltb n 64 k)))
 
 -- a text
 pub told_text : (b rest : ℕ) → 0xA0 ≤ b → b < 0xC0 → (r : ℕ) → r ≡ either (leb (b - 0x9F) rest) (λ _. b - 0x9F) (λ _. 0) → r ≡ present rest (quick_of b)
-told_text b rest g h r e = told_within rest (quick_of b) (b - 0x9F) (size_text b g h) (omega arith) r e
+told_text b rest g h r e = told_within b rest (b - 0x9F) (size_text b g h) (omega arith) r e
 
 -- a number
 pub told_number : (b rest : ℕ) (i : Bool) → i ≡ is_number b → i ≡ true → b < 256 → (t : ℕ) → t ≡ two_to (b % 4) → t ≤ 16
     → (r : ℕ) → r ≡ either (leb (1 + t) rest) (λ _. 1 + t) (λ _. 0) → r ≡ present rest (quick_of b)
-told_number b rest i e u h t f m r g = told_within rest (quick_of b) (1 + t) (size_number b i e u h t f) (omega arith) r g
+told_number b rest i e u h t f m r g = told_within b rest (1 + t) (size_number b i e u h t f) (omega arith) r g
 
 -- a byte behind CC
 told_byte : (b rest : ℕ) → b ≡ 0xCC → 2 ≤ rest → 2 ≡ present rest (quick_of b)
-told_byte b rest e h = told_within rest (quick_of b) 2 (size_byte b e) (omega arith) 2 (within_is 2 rest h)
+told_byte b rest e h = told_within b rest 2 (size_byte b e) (omega arith) 2 (within_is 2 rest h)
 
-pub ruleset withins = (within_not, within_is)
+pub ruleset tolds = (told_within, told_text, told_number, told_opens, within_not, within_is)
 
 -- a value or part
 module _ (s : List ℕ) (left at count : ℕ) (h : at < length s) (m : count < 1024) (d : left ≡ 0 → ⊥) where

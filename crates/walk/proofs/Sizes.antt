@@ -33,6 +33,18 @@ module _ (b : ℕ) where
   unfolding quick_of head_of lead_bytes row_in
   size_low h = size_in (λ k. 1) 0 0x80 tt b (omega arith) (omega arith)
 
+  pub size_high : 0xE0 ≤ b → b < 256 → 1 ≡ quick_of b
+  unfolding quick_of head_of lead_bytes row_in
+  size_high g h = size_in (λ k. 1) 0xE0 0x20 tt b g (omega arith)
+
+  pub size_map : 0x80 ≤ b → b < 0x90 → b - 0x40 ≡ quick_of b
+  unfolding quick_of head_of lead_bytes row_in
+  size_map g h = size_in (λ k. k - 0x40) 0x80 0x10 tt b g (omega arith)
+
+  pub size_array : 0x90 ≤ b → b < 0xA0 → b - 0x10 ≡ quick_of b
+  unfolding quick_of head_of lead_bytes row_in
+  size_array g h = size_in (λ k. k - 0x10) 0x90 0x10 tt b g (omega arith)
+
   pub size_text : 0xA0 ≤ b → b < 0xC0 → b - 0x9F ≡ quick_of b
   unfolding quick_of head_of lead_bytes row_in
   size_text g h = size_in (λ k. k - 0x9F) 0xA0 0x20 tt b g (omega arith)
@@ -40,6 +52,11 @@ module _ (b : ℕ) where
   pub size_never : b ≡ 0xC1 → 0 ≡ quick_of b
   unfolding quick_of head_of lead_bytes row_in
   size_never e = size_in (λ k. 0) 0xC1 1 tt b (omega arith) (omega arith)
+
+  pub size_nil : 0xC0 ≤ b → b < 0xC4 → (b ≡ 0xC1 → ⊥) → 1 ≡ quick_of b
+  unfolding quick_of head_of lead_bytes row_in
+  size_nil g h n =
+      simp (ne_eqb b 0xC1 n) at (size_in (λ k. either (eqb k 0xC1) (λ _. 0) (λ _. 1)) 0xC0 4 tt b g (omega arith))
 
   pub size_byte : b ≡ 0xCC → 2 ≡ quick_of b
   unfolding quick_of head_of lead_bytes row_in
@@ -51,15 +68,30 @@ module _ (b : ℕ) where
     size_number u h t f =
         rw f (simp (sym e ∙ u) at (size_in (λ k. either (is_number k) (λ _. 1 + two_to (k % 4)) (λ _. quick_of k)) 0 256 tt b (omega arith) h))
 
+    pub size_sized : r ≡ false → 0xC4 ≤ b → b < 0xD4 → 0 ≡ quick_of b
+    unfolding quick_of head_of lead_bytes row_in
+    size_sized u g h =
+        simp (sym e ∙ u) at (size_in (λ k. either (is_number k) (λ _. quick_of k) (λ _. 0)) 0xC4 16 tt b g (omega arith))
+
+  pub size_fixext : (t : ℕ) → t ≡ two_to (b - 0xD4) → 0xD4 ≤ b → b < 0xD9 → 2 + t ≡ quick_of b
+  unfolding quick_of head_of lead_bytes row_in
+  size_fixext t f g h = rw f (size_in (λ k. 2 + two_to (k - 0xD4)) 0xD4 5 tt b g (omega arith))
+
+  pub size_long : 0xD9 ≤ b → b < 0xE0 → 0 ≡ quick_of b
+  unfolding quick_of head_of lead_bytes row_in
+  size_long g h = size_in (λ k. 0) 0xD9 7 tt b g (omega arith)
+
+pub ruleset sizes = (size_low, size_high, size_map, size_array, size_text, size_never, size_nil, size_number, size_sized, size_fixext, size_long)
+
 -- an element without parts
 module _ (z : ℕ) where
   pub short_none : z ≡ 0 → false ≡ is_short z
   short_none e = simp (eq-eqb _ _ e)
 
-  pub short_some : (z ≡ 0 → ⊥) → z < 128 → true ≡ is_short z
+  pub short_some : (z ≡ 0 → ⊥) → z < 64 → true ≡ is_short z
   short_some n h = simp (ne_eqb _ _ n, lt-ltb _ _ h)
 
-  pub short_more : (z ≡ 0 → ⊥) → 128 ≤ z → false ≡ is_short z
+  pub short_more : (z ≡ 0 → ⊥) → 64 ≤ z → false ≡ is_short z
   short_more n h = simp (ne_eqb _ _ n, le-ltb _ _ h)
 
 pub ruleset short_tests = (short_none, short_some, short_more)
@@ -70,17 +102,17 @@ after_test false y e = (refl, e)
 
 module _ (z : ℕ) where
   pub is_some : is_short z ≡ true → z ≡ 0 → ⊥
-  is_some e = eqb-false z 0 (after_test (eqb z 0) (ltb z 128) e).0
+  is_some e = eqb-false z 0 (after_test (eqb z 0) (ltb z 64) e).0
 
-  pub is_small : is_short z ≡ true → z < 128
-  is_small e = ltb-true z 128 (after_test (eqb z 0) (ltb z 128) e).1
+  pub is_small : is_short z ≡ true → z < 64
+  is_small e = ltb-true z 64 (after_test (eqb z 0) (ltb z 64) e).1
 
-  pub is_long : is_short z ≡ false → (z ≡ 0 → ⊥) → 128 ≤ z
-  is_long e n = go (ltb z 128) refl
+  pub is_long : is_short z ≡ false → (z ≡ 0 → ⊥) → 64 ≤ z
+  is_long e n = go (ltb z 64) refl
     where
-      go : (t : Bool) → ltb z 128 ≡ t → 128 ≤ z
-      go true t = true_false (short_some z n (ltb-true z 128 t) ∙ e)
-      go false t = ltb-false z 128 t
+      go : (t : Bool) → ltb z 64 ≡ t → 64 ≤ z
+      go true t = true_false (short_some z n (ltb-true z 64 t) ∙ e)
+      go false t = ltb-false z 64 t
 
 -- what the code's test told
 pub tested : (z : ℕ) (r v : Bool) → r ≡ is_short z → r ≡ v → is_short z ≡ v

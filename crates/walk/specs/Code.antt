@@ -1,5 +1,3 @@
 pub mod Short
 pub mod Turn
 pub mod Run
-pub mod Table
-pub mod Simple

@@ -3,22 +3,21 @@ ghost use Rattle.std.specs.Prelude.{◌≡◌, ◌+◌, ◌-◌, ◌*◌, ◌≤
 ghost use lib.{Dec.leb, ListN.length};
 ghost use Rattle.octets.specs.Choice.{either};
 ghost use Rattle.element.specs.Form.{Role};
-ghost use Rattle.walk.specs.Code.{Short.is_short, Short.present, Short.quick_at, Short.Bounded, Table.IsTable, Table.quick_in};
+ghost use Rattle.walk.specs.Code.Short.{is_number, is_short, present, quick_of, quick_at, Bounded};
 
 use crate::MOST_ELEMENTS;
-use crate::table::entry_of;
+use crate::lead::two_to;
 
 // What a lead byte tells of a map is this and its pairs, of an array that and its parts; less is an element's bytes.
-pub const MAP: usize = 128;
+pub const MAP: usize = 64;
 
-pub const ARRAY: usize = 160;
+pub const ARRAY: usize = 128;
 
 // A key comes after fewer elements than this, so that its value may be counted too.
 const MOST_BEFORE_KEY: usize = 1023;
 
 // What the lead byte tells of the value at a place.
-pub fn quick_value(s: &[u8], leads: &[u8; 256], at: usize, count: usize, left: usize) -> usize
-    requires { IsTable leads.now }
+pub fn quick_value(s: &[u8], at: usize, count: usize, left: usize) -> usize
     ensures is { result ≡ quick_at s.now left Role.value at count }
     ensures bounds { Bounded (length s.now) left at count result }
 {
@@ -31,26 +30,61 @@ pub fn quick_value(s: &[u8], leads: &[u8; 256], at: usize, count: usize, left: u
     if left == 0 {
         return 0;
     }
-    let e = entry_of(leads, s[at]);
-    told(e, s.len() - at)
+    let b = s[at];
+    if b < 0x80 {
+        return 1;
+    }
+    told(b, s.len() - at)
 }
 
-// What an entry tells, where so many bytes are there from the lead byte on.
-fn told(e: u8, rest: usize) -> usize
-    ensures is { result ≡ present rest (quick_in e) }
-    ensures bounds { (result ≤ 192) × (result ≤ rest + 192 * (result - 127)) }
+// What a lead byte tells, where so many bytes are there from it on. The frequent kinds are tested first.
+fn told(b: u8, rest: usize) -> usize
+    ensures is { result ≡ present rest (quick_of b) }
+    ensures bounds { (result ≤ 160) × (result ≤ rest + 160 * (result - 63)) }
 {
-    if e < 0x80 {
-        return within((e % 32) as usize + 1, rest);
+    if b < 0xC0 {
+        return told_low(b, rest);
     }
-    if e < 0xC0 {
-        return e as usize;
+    told_high(b, rest)
+}
+
+// Texts before maps and arrays.
+fn told_low(b: u8, rest: usize) -> usize
+    requires { b < 0xC0 }
+    ensures is { result ≡ present rest (quick_of b) }
+    ensures bounds { (result ≤ 160) × (result ≤ rest + 160 * (result - 63)) }
+{
+    if 0xA0 <= b {
+        return within((b - 0x9F) as usize, rest);
     }
-    0
+    told_any(b, rest)
+}
+
+// Numbers before the rest.
+fn told_high(b: u8, rest: usize) -> usize
+    ensures is { result ≡ present rest (quick_of b) }
+    ensures bounds { (result ≤ 160) × (result ≤ rest + 160 * (result - 63)) }
+{
+    if is_number(b) {
+        return within(1 + two_to(b % 4), rest);
+    }
+    told_any(b, rest)
+}
+
+// Any lead byte.
+fn told_any(b: u8, rest: usize) -> usize
+    ensures is { result ≡ present rest (quick_of b) }
+    ensures bounds { (result ≤ 160) × (result ≤ rest + 160 * (result - 63)) }
+{
+    let n = quick_of(b);
+    if MAP <= n {
+        return n;
+    }
+    within(n, rest)
 }
 
 // n bytes, where so many are there; else 0.
-pub fn within(n: usize, rest: usize) -> usize
+fn within(n: usize, rest: usize) -> usize
     ensures is { result ≡ either (leb n rest) (λ _. n) (λ _. 0) }
     ensures bounds { (result ≤ n) × (result ≤ rest) }
 {
@@ -84,6 +118,54 @@ pub fn quick_key(s: &[u8], at: usize, count: usize, left: usize) -> usize
         return 0;
     }
     n
+}
+
+// What a lead byte alone tells.
+pub fn quick_of(b: u8) -> usize
+    ensures is { result ≡ quick_of b }
+    ensures small { result ≤ 160 }
+{
+    if b < 0xC0 {
+        if b < 0x80 {
+            return 1;
+        }
+        if 0xA0 <= b {
+            return (b - 0x9F) as usize;
+        }
+        if b < 0x90 {
+            return (b - 0x40) as usize;
+        }
+        return (b - 0x10) as usize;
+    }
+    if is_number(b) {
+        return 1 + two_to(b % 4);
+    }
+    if b < 0xC4 {
+        if b == 0xC1 {
+            return 0;
+        }
+        return 1;
+    }
+    if 0xE0 <= b {
+        return 1;
+    }
+    if b < 0xD4 {
+        return 0;
+    }
+    if b < 0xD9 {
+        return 2 + two_to(b - 0xD4);
+    }
+    0
+}
+
+// CA to D3: floats and integers of 4, 8, 1, 2, 4, 8, 1, 2, 4 and 8 bytes.
+fn is_number(b: u8) -> bool
+    ensures { result ≡ is_number b }
+{
+    if b < 0xCA {
+        return false;
+    }
+    if b < 0xD4 { true } else { false }
 }
 
 // An element without parts.

@@ -1,4 +1,6 @@
 // Writing a record as a whole frame.
+#![tactic(auto)]
+
 mod connect;
 mod downlink;
 mod head;

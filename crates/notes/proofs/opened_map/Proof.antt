@@ -6,5 +6,4 @@ pub opened-map-spec : {M : Type 1} → statement M
 opened-map-spec =
     tie.close
     (tie.spec (λ c. search (maps, rules)) (λ c κs. search rules) (λ c. search (maps, rules)) (λ c κs. search rules) (λ c. search (maps, rules))
-    (λ c. search rules) (λ c κs. search rules) (λ c. search length_fits) (λ c κs. search rules)
-    (λ c κs. search (maps, rules)) (λ c. search (maps, rules)))
+    (λ c. search rules) (λ c κs. search rules) (λ c. search length_fits) (λ c κs. search (maps, rules)) (λ c. search (maps, rules)))

@@ -1,4 +1,5 @@
--- `outer` meets its contract: a fixmap goes straight to its pairs, anything else to the reader of any outer element. Assumes nothing.
+-- `outer` meets its contract: a fixmap goes straight to its pairs, another map to the element reader; anything else breaks with 5 or 9.
+-- Assumes nothing.
 use borrow.Author.Rules.{rules}
 use Rattle.walk.proofs.{Outermost.outers, outer.Statement.statement}
 use Rattle.walk.proofs.outer.Tie as tie
@@ -6,5 +7,5 @@ use Rattle.walk.proofs.outer.Tie as tie
 pub outer-spec : {M : Type 1} → statement M
 outer-spec =
     tie.close
-    (tie.spec (λ c. search (outers, rules)) (λ c. search (outers, rules)) (λ c κs. search (outers, rules)) (λ c. search (outers, rules))
-    (λ c κs. search (outers, rules)) (λ c. search (outers, rules)))
+    (tie.spec (λ c. search rules) (λ c. search rules) (search rules) (λ c. search outers) (λ c. search outers) (search rules) (search rules)
+    (λ c. search outers) (λ c. search outers))

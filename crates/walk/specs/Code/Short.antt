@@ -27,36 +27,36 @@ quick_by Plain zero more = more + 1
 quick_by Plain (suc w) more = 0
 quick_by Text zero more = more + 1
 quick_by Text (suc w) more = 0
-quick_by Array zero more = 160 + more
+quick_by Array zero more = 128 + more
 quick_by Array (suc w) more = 0
-quick_by Map zero more = 128 + more
+quick_by Map zero more = 64 + more
 quick_by Map (suc w) more = 0
 
--- what a lead byte alone tells: below 128 the bytes of an element without parts, 128 and more a map's pairs, 160 and
+-- what a lead byte alone tells: below 64 the bytes of an element without parts, 64 and more a map's pairs, 128 and
 -- more an array's parts; 0 where bytes of length follow, and at C1
 unfoldable pub quick_of : ℕ → ℕ
 quick_of b = quick_by (head_of b).shape (head_of b).wide (head_of b).more
 
 -- the bytes of an element have to be there
 abbrev pub present : ℕ → ℕ → ℕ
-present len q = either (ltb q 128) (λ _. either (leb q len) (λ _. q) (λ _. 0)) (λ _. q)
+present len q = either (ltb q 64) (λ _. either (leb q len) (λ _. q) (λ _. 0)) (λ _. q)
 
 -- the same of the element at a place, where it breaks no rule; else 0
 unfoldable pub quick_at : List ℕ → ℕ → Role → ℕ → ℕ → ℕ
 quick_at s left role at count =
     either (eqb (fault_of s left role at count) 0) (λ _. present (length s - at) (quick_of (get_or s at 0))) (λ _. 0)
 
--- bounds that a caller's sums need: r is at most 192, an element is there, it is counted, and it has a level
+-- bounds that a caller's sums need: r is at most 160, an element is there, it is counted, and it has a level
 pub record Bounded (len left at count r : ℕ) : Type 0 where
-  pub most : r ≤ 192
-  pub within : r ≤ (len - at) + 192 * (r - 127)
-  pub there : r ≤ 192 * (len - at)
-  pub few : r ≤ 192 * (1024 - count)
-  pub deep : r ≤ 192 * left
+  pub most : r ≤ 160
+  pub within : r ≤ (len - at) + 160 * (r - 63)
+  pub there : r ≤ 160 * (len - at)
+  pub few : r ≤ 160 * (1024 - count)
+  pub deep : r ≤ 160 * left
 
 -- an element without parts
 abbrev pub is_short : ℕ → Bool
-is_short z = either (eqb z 0) (λ _. false) (λ _. ltb z 128)
+is_short z = either (eqb z 0) (λ _. false) (λ _. ltb z 64)
 
 -- the value behind a key of y bytes; 0 where there is no such key
 unfoldable pub quick_after : List ℕ → ℕ → ℕ → ℕ → ℕ → ℕ
@@ -64,7 +64,7 @@ quick_after s left at count y = either (eqb y 0) (λ _. 0) (λ _. quick_at s lef
 
 -- its bounds: there is a key, and the value's own bounds hold
 pub record After (len left at count y r : ℕ) : Type 0 where
-  pub key : r ≤ 192 * y
+  pub key : r ≤ 160 * y
   pub bounds : Bounded len left (at + y) (count + 1) r
 
 -- z is what the lead byte tells of a value that is not short

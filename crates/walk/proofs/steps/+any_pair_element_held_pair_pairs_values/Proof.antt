@@ -38,7 +38,7 @@ pub +any-pair-element-held-pair-pairs-values-spec : {M : Type 1} → statement M
     (Element.span-at-requires t)
     (Element.enum_told t)
     (Element.enum-known-next t)
-    (Element.add-t15 t)
+    (Element.add-t14 t)
     (Element.enum-known-from t)
     (Element.add-pairs t)
     (Element.sub-pairs t)

@@ -4,4 +4,4 @@ use Rattle.walk.proofs.{Quick.afters, steps.quick_after.Statement.statement}
 use Rattle.walk.proofs.steps.quick_after.Tie as tie
 
 pub quick-after-spec : {M : Type 1} → statement M
-quick-after-spec = tie.close (tie.spec (λ c. search (afters, rules)) (λ c. search rules) (λ c. search rules) (λ c κs. search rules) (λ c. search afters))
+quick-after-spec = tie.close (tie.spec (λ c. search (afters, rules)) (λ c. search rules) (λ c. search rules) (search rules) (λ c. search afters))

@@ -6,5 +6,5 @@ use Rattle.walk.proofs.steps.value.Tie as tie
 pub value_spec : {M : Type 1} → statement M
 value_spec =
     tie.close
-    (tie.spec (λ c κs. search (items, rules)) (λ c κs. search (items, rules)) (λ c. search (items, rules)) (λ c. search (items, rules))
-    (λ c. search (items, rules)) (λ c κs. search (items, rules)) (λ c. search (items, rules)))
+    (tie.spec (search rules) (search rules) (λ c. search (items, rules)) (λ c. search (items, rules)) (λ c. search (items, rules))
+    (λ c κs. search (items, rules)) (λ c. search (items, rules)))

@@ -15,7 +15,7 @@ claims t = (fault-reads.Asked, fault-reads.Learnt, span-at-reads.Asked, span-at-
 
 module _ (t : ℕ) where
   pub fault-requires : lts.Need-fault-requires (claims t) (element-at t) element.Post
-  fault-requires c κs = search rules
+  fault-requires c κs = tt
 
   pub returns : lts.Need-returns (claims t) (element-at t) element.Post
   returns c = search elements
@@ -29,8 +29,8 @@ module _ (t : ℕ) where
   pub enum-known-next : lts.Need-enum-known-next (claims t) (element-at t) element.Post
   enum-known-next c = search rules
 
-  pub add-t15 : lts.Need-overflow-add-t15 (claims t) (element-at t) element.Post
-  add-t15 c = search elements
+  pub add-t14 : lts.Need-overflow-add-t14 (claims t) (element-at t) element.Post
+  add-t14 c = search elements
 
   pub enum-known-from : lts.Need-enum-known-from (claims t) (element-at t) element.Post
   enum-known-from c = search rules

@@ -17,10 +17,10 @@ abbrev pub claims : ℕ → lts.Claims
 claims t = (quick-key-reads.Asked, quick-key-reads.Learnt, quick-after-reads.Asked, quick-after-reads.Learnt, is-short-reads.Asked, is-short-reads.Learnt, pair-below t, pair.Post)
 
 abbrev pub Inv-loop : lts.invariant-loop
-Inv-loop s leads at count left n p₀ c₀ k₀ p c k = items_of s left true n at count ≡ items_of s left true k p c
+Inv-loop s at count left n p₀ c₀ k₀ p c k = items_of s left true n at count ≡ items_of s left true k p c
 
 abbrev pub μ-loop : lts.decreases-loop
-μ-loop s leads at count left n p₀ c₀ k₀ p c k = k
+μ-loop s at count left n p₀ c₀ k₀ p c k = k
 
 module _ (t : ℕ) where
   pub loop-holds : lts.Need-loop-init (claims t) (pairs-at t) pairs.Post Inv-loop μ-loop

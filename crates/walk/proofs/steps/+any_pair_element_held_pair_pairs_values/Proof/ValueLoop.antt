@@ -17,10 +17,10 @@ abbrev pub claims : ℕ → lts.Claims
 claims t = (octet-run-reads.Asked, octet-run-reads.Learnt, quick-value-reads.Asked, quick-value-reads.Learnt, is-short-reads.Asked, is-short-reads.Learnt, held_below t, held.Post)
 
 abbrev pub Inv-loop : lts.invariant-loop
-Inv-loop s leads at count left n p₀ c₀ k₀ p c k = items_of s left false n at count ≡ items_of s left false k p c
+Inv-loop s at count left n p₀ c₀ k₀ p c k = items_of s left false n at count ≡ items_of s left false k p c
 
 abbrev pub μ-loop : lts.decreases-loop
-μ-loop s leads at count left n p₀ c₀ k₀ p c k = k
+μ-loop s at count left n p₀ c₀ k₀ p c k = k
 
 module _ (t : ℕ) where
   pub octet-run-requires : lts.Need-octet-run-requires (claims t) (values-at t) values.Post Inv-loop μ-loop
@@ -36,7 +36,7 @@ module _ (t : ℕ) where
   loop-holds c = search rules
 
   pub quick-value-requires : lts.Need-quick-value-requires (claims t) (values-at t) values.Post Inv-loop μ-loop
-  quick-value-requires c κs = search rules
+  quick-value-requires c κs = tt
 
   pub is-short-requires : lts.Need-is-short-requires (claims t) (values-at t) values.Post Inv-loop μ-loop
   is-short-requires c κs = tt
