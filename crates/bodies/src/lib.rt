@@ -20,88 +20,88 @@ use record::{Body, Message, Sixteen};
 use status::status_rsp;
 
 // A field's value, and the gravest fault of its list with it.
-#[derive(Drop)]
+#[derive(Clone, Copy)]
 struct HeldWord {
     worst: u16,
     value: message::MaybeWord,
 }
 
-#[derive(Drop)]
+#[derive(Clone, Copy)]
 struct HeldCount {
     worst: u16,
     value: u32,
 }
 
-#[derive(Drop)]
+#[derive(Clone, Copy)]
 struct HeldShort {
     worst: u16,
     value: u16,
 }
 
-#[derive(Drop)]
+#[derive(Clone, Copy)]
 struct HeldOctet {
     worst: u16,
     value: u8,
 }
 
-#[derive(Drop)]
+#[derive(Clone, Copy)]
 struct HeldId {
     worst: u16,
     value: message::MaybeId,
 }
 
-#[derive(Drop)]
+#[derive(Clone, Copy)]
 struct HeldCode {
     worst: u16,
     value: i32,
 }
 
-#[derive(Drop)]
+#[derive(Clone, Copy)]
 struct HeldMark {
     worst: u16,
     value: message::MaybeMark,
 }
 
 // An array's parts: how the field stands, and how many they are.
-#[derive(Drop)]
+#[derive(Clone, Copy)]
 struct HeldParts {
     worst: u16,
     state: u8,
     count: u8,
 }
 
-#[derive(Drop)]
+#[derive(Clone, Copy)]
 struct HeldReal {
     worst: u16,
     value: message::MaybeReal,
 }
 
-#[derive(Drop)]
+#[derive(Clone, Copy)]
 struct HeldPosition {
     worst: u16,
     value: message::MaybePosition,
 }
 
-#[derive(Drop)]
+#[derive(Clone, Copy)]
 struct HeldVersion {
     worst: u16,
     value: message::MaybeVersion,
 }
 
-#[derive(Drop)]
+#[derive(Clone, Copy)]
 struct HeldFour {
     worst: u16,
     value: u32,
 }
 
-#[derive(Drop)]
+#[derive(Clone, Copy)]
 struct HeldSixteen {
     worst: u16,
     value: Sixteen,
 }
 
 // The first `len` of sixteen bytes; zeros behind them.
-#[derive(Drop)]
+#[derive(Clone, Copy)]
 struct HeldProfile {
     worst: u16,
     len: u8,
@@ -109,14 +109,14 @@ struct HeldProfile {
 }
 
 // The fields that det and ulData have in common, and all that a command has behind opId.
-#[derive(Drop)]
+#[derive(Clone, Copy)]
 struct HeldPacket {
     worst: u16,
     value: record::Packet,
 }
 
 // A downlink's optional marks.
-#[derive(Drop)]
+#[derive(Clone, Copy)]
 struct HeldFlags {
     worst: u16,
     response_exp: message::MaybeMark,
@@ -125,7 +125,7 @@ struct HeldFlags {
     exp_only: message::MaybeMark,
 }
 
-#[derive(Drop)]
+#[derive(Clone, Copy)]
 struct Bodied {
     worst: u16,
     body: Body,
@@ -135,7 +135,7 @@ struct Bodied {
 pub const RANK: u16 = 64;
 
 // The gravest fault of a command's fields, and the record.
-#[derive(Drop)]
+#[derive(Clone, Copy)]
 pub struct Graded {
     pub worst: u16,
     pub message: Message,

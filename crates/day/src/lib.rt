@@ -31,7 +31,7 @@ const COUNTER: usize = 10;
 const SESSIONS: usize = 23552;
 
 // What an enrolment says of a meter.
-#[derive(Drop)]
+#[derive(Clone, Copy)]
 pub struct Enrolment {
     pub eui: u64,
     pub short: u16,

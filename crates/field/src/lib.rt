@@ -29,7 +29,7 @@ const GOOD: u8 = 0;
 const INVALID: u8 = 1;
 
 // How a field stands, and its value as 64 bits or as a real.
-#[derive(Drop)]
+#[derive(Clone, Copy)]
 pub struct Judged {
     pub state: u8,
     pub word: u64,
@@ -37,7 +37,7 @@ pub struct Judged {
 }
 
 // geoLocation's three reals.
-#[derive(Drop)]
+#[derive(Clone, Copy)]
 pub struct Position {
     pub latitude: f64,
     pub longitude: f64,
@@ -45,13 +45,13 @@ pub struct Position {
 }
 
 // The same of a field that is a position, and of one that is a version: zeros where it has no value.
-#[derive(Drop)]
+#[derive(Clone, Copy)]
 pub struct Located {
     pub state: u8,
     pub position: Position,
 }
 
-#[derive(Drop)]
+#[derive(Clone, Copy)]
 pub struct Released {
     pub state: u8,
     pub major: u16,
@@ -60,7 +60,7 @@ pub struct Released {
 }
 
 // A head with its length: what stands behind it begins at `from` and has `size` bytes or parts. Never where it is cut.
-#[derive(Drop)]
+#[derive(Clone, Copy)]
 struct Opened {
     shape: element::Shape,
     from: usize,
@@ -68,7 +68,7 @@ struct Opened {
 }
 
 // Where the bytes or parts of an element stand, if it is there.
-#[derive(Drop)]
+#[derive(Clone, Copy)]
 struct Extent {
     there: bool,
     from: usize,
@@ -76,21 +76,21 @@ struct Extent {
 }
 
 // A part of an array: a number from 0 to 255 with the place behind it, or none.
-#[derive(Drop)]
+#[derive(Clone, Copy)]
 enum Octet {
     Byte { value: u8, next: usize },
     Unfit,
 }
 
 // Numbers from 0 to 255 behind each other, or an array of them: how many, and the place behind them; or something else.
-#[derive(Drop)]
+#[derive(Clone, Copy)]
 enum Piece {
     Bytes { size: usize, next: usize },
     NoBytes,
 }
 
 // A real of an array, if it is one, and the place behind it.
-#[derive(Drop)]
+#[derive(Clone, Copy)]
 struct Measure {
     there: bool,
     x: f64,
@@ -98,7 +98,7 @@ struct Measure {
 }
 
 // A version as far as it is read: its dots, whether a digit stands behind the last of them, and its numbers.
-#[derive(Drop)]
+#[derive(Clone, Copy)]
 struct Release {
     dots: u8,
     digit: bool,
@@ -108,7 +108,7 @@ struct Release {
 }
 
 // What a byte more makes of it: a longer start of a version, or none.
-#[derive(Drop)]
+#[derive(Clone, Copy)]
 enum Fed {
     On(Release),
     Off,

@@ -15,7 +15,7 @@ const FIRST_SEVEN: u64 = 0x4D_494F_5459_4230;
 pub const HEAD: usize = 12;
 
 // A whole frame and its payload's size, or document 01's refusal 1, 2 or 3.
-#[derive(Drop)]
+#[derive(Clone, Copy)]
 pub enum Framed {
     Whole(usize),
     Refused(u8),

@@ -7,7 +7,7 @@ use libc::STDIN_FILENO;
 use lines::Took;
 
 // The bytes at hand, and the next frame's number.
-#[derive(Drop)]
+#[derive(Clone, Copy)]
 struct State {
     hand: Hand,
     number: u64,

@@ -16,7 +16,7 @@ const MORE: u8 = 9;
 const HIGH: u8 = 128;
 
 // A number and the place behind it; or a refusal, and zeros besides.
-#[derive(Drop)]
+#[derive(Clone, Copy)]
 pub struct Number {
     pub refusal: u8,
     pub value: u64,

@@ -15,7 +15,7 @@ use lines::Took;
 const MOST_TEXT: usize = 80;
 
 // The bytes at hand stand from `from` up to `to`, and no more will come where they are the last; `filled` bytes of text are not written yet.
-#[derive(Drop)]
+#[derive(Clone, Copy)]
 pub struct Hand {
     pub from: usize,
     pub to: usize,
@@ -25,7 +25,7 @@ pub struct Hand {
 }
 
 // What a read gave: so many bytes, or none because it failed.
-#[derive(Drop)]
+#[derive(Clone, Copy)]
 struct Got {
     failed: bool,
     bytes: usize,

@@ -285,7 +285,7 @@ fn is_marked(d: &[u8], c: u8) -> bool
 }
 
 // What each command has, and whether its marks are 0 or 1.
-#[derive(Drop)]
+#[derive(Clone, Copy)]
 pub struct Head {
     pub op_id: i64,
     pub command: u8,

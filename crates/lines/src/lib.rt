@@ -11,7 +11,7 @@ ghost use Rattle.lines.specs.{Lines.line_for, Lines.end_line, Lines.stop_lines, 
 pub use text::put_counted;
 
 // How many of the bytes at hand are used, how many of the room's are to be printed, and whether they are the last.
-#[derive(Drop)]
+#[derive(Clone, Copy)]
 pub struct Took {
     pub used: usize,
     pub length: usize,

@@ -4,37 +4,37 @@
 pub mod listed;
 
 // A field that may be absent: zero where it is.
-#[derive(Drop)]
+#[derive(Clone, Copy)]
 pub struct MaybeWord {
     pub here: bool,
     pub value: u64,
 }
 
-#[derive(Drop)]
+#[derive(Clone, Copy)]
 pub struct MaybeId {
     pub here: bool,
     pub value: i64,
 }
 
-#[derive(Drop)]
+#[derive(Clone, Copy)]
 pub struct MaybeReal {
     pub here: bool,
     pub value: f64,
 }
 
-#[derive(Drop)]
+#[derive(Clone, Copy)]
 pub struct MaybeMark {
     pub here: bool,
     pub value: bool,
 }
 
-#[derive(Drop)]
+#[derive(Clone, Copy)]
 pub struct MaybePosition {
     pub here: bool,
     pub value: field::Position,
 }
 
-#[derive(Drop)]
+#[derive(Clone, Copy)]
 pub struct MaybeVersion {
     pub here: bool,
     pub major: u16,
@@ -43,7 +43,7 @@ pub struct MaybeVersion {
 }
 
 // The signal figures of a received packet travel together.
-#[derive(Drop)]
+#[derive(Clone, Copy)]
 pub struct Signal {
     pub snr: f64,
     pub rssi: f64,

@@ -12,7 +12,7 @@ mod store;
 const MOST_STATION: u64 = 63;
 
 // A row's values. `used` is 0 for a free row; bit s of `heard` is station s.
-#[derive(Drop)]
+#[derive(Clone, Copy)]
 pub struct Row {
     pub used: u8,
     pub eui: u64,
@@ -22,14 +22,14 @@ pub struct Row {
 }
 
 // A row's number, or the number of the refusal.
-#[derive(Drop)]
+#[derive(Clone, Copy)]
 pub enum Found {
     At(usize),
     Refused(u8),
 }
 
 // A new packet or a copy, with the number of stations that heard it so far and the meter's row; or the number of the refusal.
-#[derive(Drop)]
+#[derive(Clone, Copy)]
 pub enum Credit {
     New(u32, usize),
     Copy(u32, usize),
@@ -37,7 +37,7 @@ pub enum Credit {
 }
 
 // What an uplink makes of a row, and its answer.
-#[derive(Drop)]
+#[derive(Clone, Copy)]
 pub struct Heard {
     pub row: Row,
     pub answer: Credit,

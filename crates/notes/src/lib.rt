@@ -16,7 +16,7 @@ use octets::refusals;
 use pass::{broken, pass_pairs};
 
 // The walk's answer, and the place of each key's value by slot: 0 nowhere, 1 more than once. Slot 55 is for keys of no command.
-#[derive(Drop)]
+#[derive(Clone, Copy)]
 pub struct Noted {
     pub step: element::Step,
     pub places: [u16; 64],

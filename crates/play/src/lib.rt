@@ -15,7 +15,7 @@ use record::{Body, Message, UlData};
 const SESSION: usize = 368;
 
 // A reading that is new to the table; else zeros.
-#[derive(Drop)]
+#[derive(Clone, Copy)]
 pub struct Credited {
     pub is_new: bool,
     pub eui: u64,

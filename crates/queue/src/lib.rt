@@ -23,7 +23,7 @@ use record::{Body, DlDataQue, Message};
 const FREE: u8 = 0;
 
 // An answer: document 01's refusal and zeros, or an entry's place and, of one that is chosen, where its data stand behind its record.
-#[derive(Drop)]
+#[derive(Clone, Copy)]
 pub struct Answer {
     pub refusal: u8,
     pub place: u8,

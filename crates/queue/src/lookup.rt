@@ -9,7 +9,7 @@ use crate::store::{SLOT, SLOTS, or_behind};
 use crate::{rank, store};
 
 // Whether a queue ID is there, and the lowest free place, or 32.
-#[derive(Drop)]
+#[derive(Clone, Copy)]
 pub struct Room {
     pub there: bool,
     pub free: usize,

@@ -20,7 +20,7 @@ const LENT_SIZE: usize = 880;
 const USER_SIZE: usize = 245;
 
 // What was read at the start of an input, and how many bytes of it: a frame's, or 0 where there is no whole frame.
-#[derive(Drop)]
+#[derive(Clone, Copy)]
 pub struct Unframed {
     pub used: usize,
     pub told: Told,

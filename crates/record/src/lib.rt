@@ -8,13 +8,13 @@ use message::{MaybeId, MaybeMark, MaybePosition, MaybeReal, MaybeVersion, MaybeW
 use names::numbers;
 
 // Sixteen bytes, big endian.
-#[derive(Drop)]
+#[derive(Clone, Copy)]
 pub struct Sixteen {
     pub high: u64,
     pub low: u64,
 }
 
-#[derive(Drop)]
+#[derive(Clone, Copy)]
 pub struct Con {
     pub version: MaybeVersion,
     pub bs_eui: u64,
@@ -25,7 +25,7 @@ pub struct Con {
     pub sn_sc_op_id: MaybeId,
 }
 
-#[derive(Drop)]
+#[derive(Clone, Copy)]
 pub struct ConRsp {
     pub version: MaybeVersion,
     pub sc_eui: u64,
@@ -34,7 +34,7 @@ pub struct ConRsp {
 }
 
 // The message's text is lent.
-#[derive(Drop)]
+#[derive(Clone, Copy)]
 pub struct StatusRsp {
     pub code: i32,
     pub message_len: u8,
@@ -48,7 +48,7 @@ pub struct StatusRsp {
 }
 
 // What det and ulData tell of a received packet. A profile of no bytes is absent.
-#[derive(Drop)]
+#[derive(Clone, Copy)]
 pub struct Packet {
     pub ep_eui: u64,
     pub rx_time: u64,
@@ -59,13 +59,13 @@ pub struct Packet {
     pub profile: Sixteen,
 }
 
-#[derive(Drop)]
+#[derive(Clone, Copy)]
 pub struct Det {
     pub packet: Packet,
     pub sign: u32,
 }
 
-#[derive(Drop)]
+#[derive(Clone, Copy)]
 pub struct AttPrp {
     pub ep_eui: u64,
     pub bidi: bool,
@@ -79,7 +79,7 @@ pub struct AttPrp {
 }
 
 // The user's data are lent.
-#[derive(Drop)]
+#[derive(Clone, Copy)]
 pub struct UlData {
     pub packet: Packet,
     pub user_len: u8,
@@ -90,7 +90,7 @@ pub struct UlData {
 }
 
 // Counters, lengths and data are lent: as many lengths and data as there are entries, and as many counters where they are counter dependent.
-#[derive(Drop)]
+#[derive(Clone, Copy)]
 pub struct DlDataQue {
     pub ep_eui: u64,
     pub que_id: u64,
@@ -105,7 +105,7 @@ pub struct DlDataQue {
 }
 
 // What each command has behind opId. detRsp has its sign, big endian, and detPrp its epEui; fifteen commands have nothing: their number.
-#[derive(Drop)]
+#[derive(Clone, Copy)]
 pub enum Body {
     Con(Con),
     ConRsp(ConRsp),
@@ -119,14 +119,14 @@ pub enum Body {
     Bare(u8),
 }
 
-#[derive(Drop)]
+#[derive(Clone, Copy)]
 pub struct Message {
     pub op_id: i64,
     pub body: Body,
 }
 
 // A record with its count of elements; or document 01's number, the place for 4 to 10, and zeros besides.
-#[derive(Drop)]
+#[derive(Clone, Copy)]
 pub struct Told {
     pub refusal: u8,
     pub place: usize,

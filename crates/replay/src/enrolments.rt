@@ -2,7 +2,7 @@
 use hand::Hand;
 
 // The bytes at hand; whether all enrolments were taken.
-#[derive(Drop)]
+#[derive(Clone, Copy)]
 struct Enrolling {
     hand: Hand,
     complete: bool,

@@ -6,7 +6,7 @@ use lines::Took;
 const SESSIONS: usize = 23552;
 
 // The bytes at hand; whether the trace's first number was read, the sum of the gaps and the count of records since.
-#[derive(Drop)]
+#[derive(Clone, Copy)]
 struct Playing {
     hand: Hand,
     started: bool,

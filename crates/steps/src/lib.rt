@@ -22,7 +22,7 @@ use octets::refusals;
 use record::Message;
 
 // Document 01's number and zeros besides; or what happened, and how many bytes stand in the room.
-#[derive(Drop)]
+#[derive(Clone, Copy)]
 pub struct Answer {
     pub refusal: u8,
     pub happened: u8,

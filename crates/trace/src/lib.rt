@@ -16,7 +16,7 @@ pub use recorder::{write, write_start};
 const MOST_STATION: u64 = 63;
 
 // A record: its gap, its station, where its frame begins and how long it is; the record ends with it. Or a refusal, and zeros besides.
-#[derive(Drop)]
+#[derive(Clone, Copy)]
 pub struct Entry {
     pub refusal: u8,
     pub gap: u64,
@@ -26,7 +26,7 @@ pub struct Entry {
 }
 
 // How many bytes stand in the room; or a refusal and 0.
-#[derive(Drop)]
+#[derive(Clone, Copy)]
 pub struct Wrote {
     pub refusal: u8,
     pub length: usize,

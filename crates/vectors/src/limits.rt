@@ -3,7 +3,7 @@ use crate::{payload, text};
 use frame::Framed;
 
 // How many limits were tried, and how many answers were wrong.
-#[derive(Drop)]
+#[derive(Clone, Copy)]
 struct Count {
     tried: u64,
     wrong: u64,

@@ -4,7 +4,7 @@ ghost use Rattle.std.specs.Prelude.{◌≤◌, length};
 use libc::STDOUT_FILENO;
 
 // A number, where the text is one.
-#[derive(Drop)]
+#[derive(Clone, Copy)]
 pub struct Figure {
     pub good: bool,
     pub x: u64,

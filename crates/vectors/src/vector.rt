@@ -3,7 +3,7 @@ use crate::text::Figure;
 use crate::{payload, text};
 
 // How many lines, cuts and numbers were tried, and how many answers were wrong.
-#[derive(Drop)]
+#[derive(Clone, Copy)]
 pub struct Tally {
     pub lines: u64,
     pub cuts: u64,
@@ -13,7 +13,7 @@ pub struct Tally {
 
 // What a line says of its value: the elements; then, by `kind`, an integer (i), a float's bits (f), the place of
 // a key that is no text (k), or nothing (-).
-#[derive(Drop)]
+#[derive(Clone, Copy)]
 pub struct Said {
     pub good: bool,
     pub elements: usize,

@@ -6,7 +6,7 @@ ghost use Rattle.walk.specs.Code.Run.{eight_more, Follows, Passes, Ran};
 use crate::MOST_ELEMENTS;
 
 // The place behind such parts, and how many they are.
-#[derive(Drop)]
+#[derive(Clone, Copy)]
 pub struct Passed {
     pub at: usize,
     pub parts: usize,

@@ -27,7 +27,7 @@ pub const MOST_FRAME: usize = 1909;
 pub const MOST_REPLY: usize = 145;
 
 // A frame and its length, or document 01's refusal 15 or 20.
-#[derive(Drop)]
+#[derive(Clone, Copy)]
 pub enum Written {
     Whole(usize),
     Refused(u8),

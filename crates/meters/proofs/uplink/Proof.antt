@@ -1,9 +1,0 @@
--- `meters::uplink` meets its contract: where the lengths differ it is 24, else the call on a table. Assumes nothing.
-use borrow.Author.Rules.{rules}
-use Rattle.meters.proofs.{Laws.tests, uplink.Statement.statement}
-use Rattle.meters.proofs.uplink.Tie as tie
-
-pub uplink-spec : {M : Type 1} → statement M
-uplink-spec =
-    tie.close
-    (tie.spec (search rules) (λ c. search tests) (λ c κs. search tests) (λ c. search rules) (λ c. search rules) (λ c. search rules))
