@@ -1,0 +1,12 @@
+use Rattle.number.proofs.Bodies.{bodies}
+use Rattle.std.proofs.Common.{rules}
+use Rattle.number.proofs.signed.Goals as goal
+
+pub returns-then-n-half : goal.returns-then-n-half
+returns-then-n-half c = search (bodies, rules)
+
+pub returns-then-there : goal.returns-then-there
+returns-then-there c = search (bodies, rules)
+
+pub returns : goal.returns
+returns c = search (bodies, rules)
