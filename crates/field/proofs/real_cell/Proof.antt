@@ -1,7 +1,0 @@
--- No one place, or the element at its place. Assumes nothing.
-use borrow.Author.Rules.{rules}
-use Rattle.field.proofs.{Cells.cells, real_cell.Statement.statement}
-use Rattle.field.proofs.real_cell.Tie as tie
-
-pub real-cell-spec : {M : Type 1} → statement M
-real-cell-spec = tie.close (tie.spec (search rules) (λ c. search (cells, rules)) (search rules) (λ c. search (cells, rules)))
