@@ -58,7 +58,7 @@ nothing_said s i h = rw (unnoted_zero i h) Agree.nowhere
 pub payload_agrees : (s : List ℕ) (w : Tree) → Payload s w → Agrees s (places_of s) (outer_of (meaning_of w))
 unfolding bytes_of count_of depth_of Lawful meaning_of places_of
 payload_agrees s (leaf b l d) P = absurd (subst IsBody P.outer P.lawful.1)
-payload_agrees s (array b l ts) P = let z : ◌≡◌ {A = ℕ} 0 1 = cc (P.lawful.0.Shape-is, P.outer) in absurd (omega arith)
+payload_agrees s (array b l ts) P = let z : ◌≡◌ {A = ℕ} 0 1 = cc (P.lawful.0.shape_is, P.outer) in absurd (omega arith)
 payload_agrees s (map b l ps) P =
     let d : drop 0 s ≡ (b ∷ l ++ bytes_of_pairs ps) ++ [] = sym P.bytes ∙ sym (append-nil (b ∷ l ++ bytes_of_pairs ps)) in
     let g = headed s 8 Role.outer 0 0 b l (bytes_of_pairs ps) [] (lit< tt) (lit< tt) d in

@@ -63,8 +63,8 @@ key_text (leaf b l d) s at t L h e =
     let from : body_from s at ≡ at + 1 + length l = rw (lead, L.0.wide) in
     let many : at + length (b ∷ l ++ d) - (at + 1 + length l) ≡ length d = omega (arith, length-append l d) in
     rw (from, many) (part s (at + 1 + length l) d t body)
-key_text (array b l ts) s at t L h e = let z : ◌≡◌ {A = ℕ} 0 1 = cc L.0.Shape-is in absurd (omega arith)
-key_text (map b l ps) s at t L h e = let z : ◌≡◌ {A = ℕ} 0 1 = cc L.0.Shape-is in absurd (omega arith)
+key_text (array b l ts) s at t L h e = let z : ◌≡◌ {A = ℕ} 0 1 = cc L.0.shape_is in absurd (omega arith)
+key_text (map b l ps) s at t L h e = let z : ◌≡◌ {A = ℕ} 0 1 = cc L.0.shape_is in absurd (omega arith)
 
 not_empty : (w : Tree) → 1 ≤ length (bytes_of w)
 unfolding bytes_of

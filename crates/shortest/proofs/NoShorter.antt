@@ -204,7 +204,7 @@ module _ (b : ℕ) (l : List ℕ) where
   least_head : (shape : Shape) (few first n : ℕ) → IsBytes l → Headed shape b l n → (T (sized shape (head_of b).wide (head_of b).more) → T (many (head_of b).wide (head_of b).more))
       → length (head_bytes (many_head few first n)) ≤ suc (length l)
   least_head shape few first n bytes H f =
-      let t = f (subst (λ (s : Shape). T (sized s (head_of b).wide (head_of b).more)) H.Shape-is (all_sized b)) in
+      let t = f (subst (λ (s : Shape). T (sized s (head_of b).wide (head_of b).more)) H.shape_is (all_sized b)) in
       omega (arith, many_least l bytes few first (head_of b).wide (head_of b).more n t H.wide H.states)
 
   pub no_shorter_array : (ts : Trees) → Lawful (array b l ts) → IsBytes l → length (head_bytes (array_head (part_count ts))) ≤ suc (length l)
