@@ -62,6 +62,7 @@ by_sort (Kind.pieces many most all) v (strings ds) = pieces many most all ds
 by_sort (Kind.texts lo hi) v (string d) = text lo hi d
 by_sort Kind.versions v (release a b c) = version a b c
 by_sort Kind.words v (string d) = word d
+by_sort Kind.maps v x' = elim x' [ ]
 
 module _ (k : Kind) (v : Value) (t : T (within k v)) where
   pub sorted : Sorted k v
