@@ -28,14 +28,14 @@ pub fn six(x: u64, y: u64) -> u8
     ensures { result ≡ place_by commands 6 4 x y }
 {
     match x {
-        0x636F6E52 /* con_rsp */ => if y == 0x7370 { 1 } else { COMMANDS },
+        0x636F6E52 /* conRsp */ => if y == 0x7370 { 1 } else { COMMANDS },
         0x64657452 /* detRsp */ => if y == 0x7370 { 4 } else { COMMANDS },
-        0x61747450 /* att_prp */ => if y == 0x7270 { 5 } else { COMMANDS },
+        0x61747450 /* attPrp */ => if y == 0x7270 { 5 } else { COMMANDS },
         0x64657450 /* detPrp */ => if y == 0x7270 { 6 } else { COMMANDS },
-        0x756C4461 /* ul_data */ => if y == 0x7461 { 7 } else { COMMANDS },
+        0x756C4461 /* ulData */ => if y == 0x7461 { 7 } else { COMMANDS },
         0x636F6E43 /* conCmp */ => if y == 0x6D70 { 8 } else { COMMANDS },
         0x73746174 /* status */ => if y == 0x7573 { 12 } else { COMMANDS },
-        0x64657443 /* det_cmp */ => if y == 0x6D70 { 14 } else { COMMANDS },
+        0x64657443 /* detCmp */ => if y == 0x6D70 { 14 } else { COMMANDS },
         _ => COMMANDS,
     }
 }
@@ -44,8 +44,8 @@ pub fn seven(x: u64, y: u64) -> u8
     ensures { result ≡ place_by commands 7 4 x y }
 {
     match y {
-        0x527370 /* ping_rsp */ => if x == 0x70696E67 { 10 } else { COMMANDS },
-        0x436D70 /* ping_cmp */ => if x == 0x70696E67 { 11 } else { COMMANDS },
+        0x527370 /* pingRsp */ => if x == 0x70696E67 { 10 } else { COMMANDS },
+        0x436D70 /* pingCmp */ => if x == 0x70696E67 { 11 } else { COMMANDS },
         _ => COMMANDS,
     }
 }
@@ -54,15 +54,15 @@ pub fn nine(x: u64, y: u64) -> u8
     ensures { result ≡ place_by commands 9 8 x y }
 {
     match x {
-        0x7374617475735273 /* status_rsp */ => if y == 0x70 { 2 } else { COMMANDS },
+        0x7374617475735273 /* statusRsp */ => if y == 0x70 { 2 } else { COMMANDS },
         0x737461747573436D /* statusCmp */ => if y == 0x70 { 13 } else { COMMANDS },
-        0x6174745072705273 /* att_prp_rsp */ => if y == 0x70 { 15 } else { COMMANDS },
+        0x6174745072705273 /* attPrpRsp */ => if y == 0x70 { 15 } else { COMMANDS },
         0x617474507270436D /* attPrpCmp */ => if y == 0x70 { 16 } else { COMMANDS },
-        0x6465745072705273 /* det_prp_rsp */ => if y == 0x70 { 17 } else { COMMANDS },
+        0x6465745072705273 /* detPrpRsp */ => if y == 0x70 { 17 } else { COMMANDS },
         0x646574507270436D /* detPrpCmp */ => if y == 0x70 { 18 } else { COMMANDS },
         0x756C446174615273 /* ulDataRsp */ => if y == 0x70 { 19 } else { COMMANDS },
-        0x756C44617461436D /* ul_data_cmp */ => if y == 0x70 { 20 } else { COMMANDS },
-        0x646C446174615175 /* dl_data_que */ => if y == 0x65 { 21 } else { COMMANDS },
+        0x756C44617461436D /* ulDataCmp */ => if y == 0x70 { 20 } else { COMMANDS },
+        0x646C446174615175 /* dlDataQue */ => if y == 0x65 { 21 } else { COMMANDS },
         _ => COMMANDS,
     }
 }
@@ -71,7 +71,7 @@ pub fn twelve(x: u64, y: u64) -> u8
     ensures { result ≡ place_by commands 12 8 x y }
 {
     match y {
-        0x65527370 /* dl_data_que_rsp */ => if x == 0x646C446174615175 {
+        0x65527370 /* dlDataQueRsp */ => if x == 0x646C446174615175 {
             22
         } else {
             COMMANDS

@@ -37,9 +37,9 @@ pub fn five(x: u64, y: u64) -> usize
     ensures { result ≡ place_by keys 5 4 x y }
 {
     match x {
-        0x62734575 /* bs_eui */ => if y == 0x69 { 3 } else { NONE },
+        0x62734575 /* bsEui */ => if y == 0x69 { 3 } else { NONE },
         0x6D6F6465 /* model */ => if y == 0x6C { 10 } else { NONE },
-        0x73634575 /* sc_eui */ => if y == 0x69 { 14 } else { NONE },
+        0x73634575 /* scEui */ => if y == 0x69 { 14 } else { NONE },
         0x65704575 /* epEui */ => if y == 0x69 { 26 } else { NONE },
         0x6571536E /* eqSnr */ => if y == 0x72 { 32 } else { NONE },
         0x646C4163 /* dlAck */ => if y == 0x6B { 47 } else { NONE },
@@ -82,11 +82,11 @@ pub fn eight(x: u64) -> usize
     ensures { result ≡ place_by keys 8 8 x 0 }
 {
     match x {
-        0x736E427355756964 /* sn_bs_uuid */ => 6,
+        0x736E427355756964 /* snBsUuid */ => 6,
         0x736E42734F704964 /* snBsOpId */ => 7,
         0x736E53634F704964 /* snScOpId */ => 8,
         0x736E526573756D65 /* snResume */ => 15,
-        0x736E536355756964 /* sn_sc_uuid */ => 16,
+        0x736E536355756964 /* snScUuid */ => 16,
         0x6E776B536E4B6579 /* nwkSnKey */ => 36,
         0x6475616C4368616E /* dualChan */ => 39,
         0x7573657244617461 /* userData */ => 43,
