@@ -36,12 +36,12 @@ unfolding part_in or_fault
 packet_is a b p rs l behind s q =
     pass _ _ _ _ _ s.0
     (pass _ _ _ _ _ s.1
-    (look_on _ _ _ _ _ _ _ (maybe_sure _ unsigned64 p.rx_duration.here _ _ s.2)
+    (look_on _ _ _ _ _ _ _ (maybe_sure [] unsigned64 p.rx_duration.here _ _ s.2)
     (pass _ _ _ _ _ s.3
     (look_on _ _ _ _ _ _ _ (real_in_lem p.signal.snr)
     (look_on _ _ _ _ _ _ _ (real_in_lem p.signal.rssi)
-    (look_on _ _ _ _ _ _ _ (figure_in _ p.signal.has_eq_snr p.signal.eq_snr)
-    (look_on _ _ _ _ _ 0 behind (profile_in _ p.profile p.profile_len) q)))))))
+    (look_on _ _ _ _ _ _ _ (figure_in [] p.signal.has_eq_snr p.signal.eq_snr)
+    (look_on _ _ _ _ _ 0 behind (profile_in [] p.profile p.profile_len) q)))))))
 
 abbrev fault_for : ℤ → List ℕ → Body → ℕ
 fault_for z d b = fault_in (record { op_id = z; body = b }) d
@@ -52,13 +52,13 @@ module _ (z : ℤ) (id : Signed 0x7FFFFFFFFFFFFFFF z) (d : List ℕ) where
   con_is x s =
       pass _ _ _ _ _ (name_in _)
       (pass _ _ _ _ _ id
-      (look _ _ _ _ _ _ (must_be _ Kind.versions x.version.here _ _ s.0)
+      (look _ _ _ _ _ _ (must_be [] Kind.versions x.version.here _ _ s.0)
       (pass _ _ _ _ _ s.1
       (pass _ _ _ _ _ (mark_in x.bidi)
-      (look _ _ _ _ _ _ (position_in _ x.geo_location)
+      (look _ _ _ _ _ _ (position_in [] x.geo_location)
       (pass _ _ _ _ _ (sixteen_in x.sn_bs_uuid)
-      (look _ _ _ _ _ _ (station_in _ x.sn_bs_op_id)
-      (look _ _ _ _ _ _ (centre_in _ x.sn_sc_op_id)
+      (look _ _ _ _ _ _ (station_in [] x.sn_bs_op_id)
+      (look _ _ _ _ _ _ (centre_in [] x.sn_sc_op_id)
       (clear _ _ _ tt)))))))))
 
   con_rsp_is : (x : ConRsp) → Sure (Body.ConRsp x) → fault_for z d (Body.ConRsp x) ≡ con_rsp_fault x
@@ -66,7 +66,7 @@ module _ (z : ℤ) (id : Signed 0x7FFFFFFFFFFFFFFF z) (d : List ℕ) where
   con_rsp_is x s =
       pass _ _ _ _ _ (name_in _)
       (pass _ _ _ _ _ id
-      (look _ _ _ _ _ _ (maybe_sure _ Kind.versions x.version.here _ _ s.0)
+      (look _ _ _ _ _ _ (maybe_sure [] Kind.versions x.version.here _ _ s.0)
       (pass _ _ _ _ _ s.1
       (pass _ _ _ _ _ (mark_in x.sn_resume)
       (pass _ _ _ _ _ (sixteen_in x.sn_sc_uuid)
@@ -81,11 +81,11 @@ module _ (z : ℤ) (id : Signed 0x7FFFFFFFFFFFFFFF z) (d : List ℕ) where
       (look _ _ _ _ _ _ (text_lent 64 x.message_len d)
       (pass _ _ _ _ _ s.1
       (look _ _ _ _ _ _ (real_in_lem x.duty_cycle)
-      (look _ _ _ _ _ _ (position_in _ x.geo_location)
-      (look _ _ _ _ _ _ (maybe_sure _ unsigned64 x.uptime.here _ _ s.2)
-      (look _ _ _ _ _ _ (figure_in _ x.temp.here x.temp.value)
-      (look _ _ _ _ _ _ (figure_in _ x.cpu_load.here x.cpu_load.value)
-      (look _ _ _ _ _ _ (figure_in _ x.mem_load.here x.mem_load.value)
+      (look _ _ _ _ _ _ (position_in [] x.geo_location)
+      (look _ _ _ _ _ _ (maybe_sure [] unsigned64 x.uptime.here _ _ s.2)
+      (look _ _ _ _ _ _ (figure_in [] x.temp.here x.temp.value)
+      (look _ _ _ _ _ _ (figure_in [] x.cpu_load.here x.cpu_load.value)
+      (look _ _ _ _ _ _ (figure_in [] x.mem_load.here x.mem_load.value)
       (clear _ _ _ tt)))))))))))
 
   det_rsp_is : (sign : ℕ) → fault_for z d (Body.DetRsp sign) ≡ 0
@@ -127,7 +127,7 @@ module _ (z : ℤ) (id : Signed 0x7FFFFFFFFFFFFFFF z) (d : List ℕ) where
       (pass _ _ _ _ _ id
       (packet_is _ _ x.packet (drop 8 (body_sayings (Body.UlData x) d)) _ _ s.0
       (look _ _ _ _ _ _ (bytes_lent 245 x.user_len d b)
-      (pass _ _ _ _ _ (unless_in _ unsigned8 x.format s.1)
+      (pass _ _ _ _ _ (unless_in [] unsigned8 x.format s.1)
       (pass _ _ _ _ _ (mark_in x.dl_open)
       (look _ _ _ _ _ _ (tested_in (not x.response_exp || x.dl_open) _ (mark_in x.response_exp))
       (pass _ _ _ _ _ (mark_in x.dl_ack)
@@ -141,14 +141,14 @@ module _ (z : ℤ) (id : Signed 0x7FFFFFFFFFFFFFFF z) (d : List ℕ) where
       (pass _ _ _ _ _ s.0
       (pass _ _ _ _ _ s.1
       (pass _ _ _ _ _ (mark_in x.cnt_depend)
-      (look _ _ _ _ _ _ (counters_in _ x d b)
+      (look _ _ _ _ _ _ (counters_in [] x d b)
       (look _ _ _ _ _ _ (pieces_in_lem x.entries d b)
-      (pass _ _ _ _ _ (unless_in _ unsigned8 x.format s.2)
-      (look _ _ _ _ _ _ (prio_in _ x.prio)
-      (look _ _ _ _ _ _ (marks_in _ x.response_exp)
-      (look _ _ _ _ _ _ (marks_in _ x.response_prio)
-      (look _ _ _ _ _ _ (marks_in _ x.dl_wind_req)
-      (look _ _ _ _ _ _ (marks_in _ x.exp_only)
+      (pass _ _ _ _ _ (unless_in [] unsigned8 x.format s.2)
+      (look _ _ _ _ _ _ (prio_in [] x.prio)
+      (look _ _ _ _ _ _ (marks_in [] x.response_exp)
+      (look _ _ _ _ _ _ (marks_in [] x.response_prio)
+      (look _ _ _ _ _ _ (marks_in [] x.dl_wind_req)
+      (look _ _ _ _ _ _ (marks_in [] x.exp_only)
       (clear _ _ _ tt)))))))))))))
 
   bare_more : (c : ℕ) → fields_of c ≡ headed [] → fault_for z d (Body.Bare c) ≡ bare_fault c

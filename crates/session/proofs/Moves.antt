@@ -91,6 +91,7 @@ module _ (f : Session → ℤ) (beyond : ℤ → ℤ → Bool) where
     joined : (s t : Session) (b : Bool) (o : Option ℤ) (es : List Event) → Goes s t b o → Ordered beyond id (f t) t es
         → Beyond beyond (f s) o × Ordered beyond id (either b (λ _. pos 0) (λ _. latest (f s) o)) t es
     joined s t true none es (anew e) r = (tt, subst (λ (z : ℤ). Ordered beyond id z t es) e r)
+    joined s t true (some z) es x r = elim x [ ]
     joined s t false none es (on o (kept e)) r = (tt, subst (λ (z : ℤ). Ordered beyond id z t es) e r)
     joined s t false (some z) es (on o (moved y b e)) r = (b, subst (λ (x : ℤ). Ordered beyond id x t es) e r)
 

@@ -1,0 +1,7 @@
+use borrow.Author.Rules.{rules}
+use Rattle.bodies.proofs.Parts.{parts}
+use Rattle.std.proofs.Common.{rules}
+use Rattle.bodies.proofs.part.real.Goals as goal
+
+pub returns : goal.returns
+returns c = search (parts, rules)

@@ -1,0 +1,5 @@
+-- `is_position` meets its contract. Assumes nothing.
+use Rattle.faults.proofs.part.is_position.Goals as goal
+
+pub returns : goal.returns
+returns c = cc

@@ -1,0 +1,5 @@
+-- `put_marks` meets its contract, by the laws of proofs/. Assumes nothing.
+use Rattle.layout.proofs.put.put_marks.Goals as goal
+
+pub returns : goal.returns
+returns c = cc

@@ -1,0 +1,7 @@
+-- `put_packet` meets its contract, by the laws of proofs/. Assumes nothing.
+use Rattle.layout.specs.Image.{laid, packet_lies}
+use Rattle.layout.proofs.put.put_packet.Goals as goal
+
+pub returns : goal.returns
+unfolding laid packet_lies
+returns c = cc

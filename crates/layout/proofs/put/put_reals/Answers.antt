@@ -1,0 +1,5 @@
+-- `put_reals` meets its contract, by the laws of proofs/. Assumes nothing.
+use Rattle.layout.proofs.put.put_reals.Goals as goal
+
+pub returns : goal.returns
+returns c = cc

@@ -1,0 +1,5 @@
+-- `figure` meets its contract, by the laws of proofs/. Assumes nothing.
+use Rattle.layout.proofs.taken.figure.Goals as goal
+
+pub returns : goal.returns
+returns c = cc

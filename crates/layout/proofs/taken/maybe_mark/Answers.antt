@@ -1,0 +1,5 @@
+-- `maybe_mark` meets its contract, by the laws of proofs/. Assumes nothing.
+use Rattle.layout.proofs.taken.maybe_mark.Goals as goal
+
+pub returns : goal.returns
+returns c = cc
