@@ -59,11 +59,31 @@ unfolding within
 in_place (Kind.arrays lo hi) a b e y t = rw (← e, y, and-true) (both_left (is_sized lo hi a) (are_bytes a) t)
 in_place (Kind.texts lo hi) a b e y t = rw (← e) t
 in_place Kind.words a b e y t = tt
+in_place (Kind.wholes _ _) a b e y t = elim t [ ]
+in_place Kind.reals a b e y t = elim t [ ]
+in_place Kind.singles a b e y t = elim t [ ]
+in_place Kind.flags a b e y t = elim t [ ]
+in_place Kind.positions a b e y t = elim t [ ]
+in_place (Kind.counters _) a b e y t = elim t [ ]
+in_place (Kind.pieces _ _ _) a b e y t = elim t [ ]
+in_place Kind.versions a b e y t = elim t [ ]
+in_place Kind.maps a b e y t = elim t [ ]
 
 -- counters in place of as many others
 counters_place : (k : Kind) (a b : List ℕ) → length a ≡ length b → are_below (2 ^ 32) b ≡ true → T (within k (Value.counts a)) → T (within k (Value.counts b))
 unfolding within
 counters_place (Kind.counters many) a b e y t = rw (← e, y, and-true) (both_left (leb (length a) many) (are_below (2 ^ 32) a) t)
+counters_place (Kind.wholes _ _) a b e y t = elim t [ ]
+counters_place Kind.reals a b e y t = elim t [ ]
+counters_place Kind.singles a b e y t = elim t [ ]
+counters_place Kind.flags a b e y t = elim t [ ]
+counters_place Kind.positions a b e y t = elim t [ ]
+counters_place (Kind.arrays _ _) a b e y t = elim t [ ]
+counters_place (Kind.pieces _ _ _) a b e y t = elim t [ ]
+counters_place (Kind.texts _ _) a b e y t = elim t [ ]
+counters_place Kind.versions a b e y t = elim t [ ]
+counters_place Kind.words a b e y t = elim t [ ]
+counters_place Kind.maps a b e y t = elim t [ ]
 
 cut_stays : (ns d t : List ℕ) → sum_of ns ≤ length d → cut_by ns (d ++ t) ≡ cut_by ns d
 unfolding cut_by sum_of
