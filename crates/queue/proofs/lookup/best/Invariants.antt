@@ -1,0 +1,12 @@
+-- The best of those that are left. Assumes nothing.
+use mathlib.Core.Path.{◌≡◌}
+use Prim.Native.Nat.{◌≤◌}
+use Rattle.queue.specs.Queue.{chosen}
+use Rattle.queue.specs.Code.Slots.{found_from, left}
+use Rattle.queue.proofs.lookup.best.Given as goal
+
+abbrev pub invariant-loop-i : goal.invariant-loop-i
+invariant-loop-i l = (l.i ≤ 32) × (l.best ≡ found_from l.i (chosen l.eui l.k l.expected (left l.q l.i)))
+
+abbrev pub decreases-loop-i : goal.decreases-loop-i
+decreases-loop-i l = l.i

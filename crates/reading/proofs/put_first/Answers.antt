@@ -1,0 +1,7 @@
+use borrow.Author.Rules.{rules}
+use Rattle.reading.proofs.Lending.{firsts}
+use Rattle.std.proofs.Common.{rules}
+use Rattle.reading.proofs.put_first.Goals as goal
+
+pub returns : goal.returns
+returns c = search (firsts, rules)

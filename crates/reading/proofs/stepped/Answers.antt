@@ -1,0 +1,13 @@
+use borrow.Author.Rules.{rules}
+use Rattle.reading.proofs.Answers.{ways}
+use Rattle.std.proofs.Common.{rules}
+use Rattle.reading.proofs.stepped.Goals as goal
+
+pub returns-then-at-s : goal.returns-then-at-s
+returns-then-at-s c = search (ways, rules)
+
+pub returns-in-Broken : goal.returns-in-Broken
+returns-in-Broken c = search (ways, rules)
+
+pub returns-else-at-s : goal.returns-else-at-s
+returns-else-at-s c = search (ways, rules)

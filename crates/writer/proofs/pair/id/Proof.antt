@@ -1,7 +1,0 @@
--- `id` meets its contract, by the laws of proofs/Putting. Assumes nothing.
-use Rattle.writer.proofs.{Putting.pairs, pair.id.Statement.statement}
-use borrow.Author.Rules.{rules}
-use Rattle.writer.proofs.pair.id.Tie as tie
-
-pub id_spec : {M : Type 1} → statement M
-id_spec = tie.close (tie.spec (λ c. search pairs) (λ c κs. search rules) (λ c κs. search rules) (λ c. search rules) (λ c. search pairs))

@@ -1,0 +1,10 @@
+use Rattle.writer.proofs.Putting.{pairs}
+use borrow.Author.Rules.{rules}
+use Rattle.std.proofs.Common.{rules}
+use Rattle.writer.proofs.pair.real.Goals as goal
+
+pub returns-then-not-here : goal.returns-then-not-here
+returns-then-not-here c = search (pairs, rules)
+
+pub returns : goal.returns
+returns c = search (pairs, rules)

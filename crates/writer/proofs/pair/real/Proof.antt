@@ -1,7 +1,0 @@
--- `real` meets its contract, by the laws of proofs/Putting. Assumes nothing.
-use Rattle.writer.proofs.{Putting.pairs, pair.real.Statement.statement}
-use borrow.Author.Rules.{rules}
-use Rattle.writer.proofs.pair.real.Tie as tie
-
-pub real-spec : {M : Type 1} → statement M
-real-spec = tie.close (tie.spec (λ c. search pairs) (λ c κs. search rules) (λ c κs. search rules) (λ c. search rules) (λ c. search pairs))
