@@ -1,0 +1,15 @@
+use borrow.Author.Rules.{rules}
+use Rattle.steps.proofs.Opening.{openings}
+use Rattle.steps.proofs.Replies.{replies}
+use Rattle.steps.proofs.Storing.{long}
+use Rattle.std.proofs.Common.{rules}
+use Rattle.steps.proofs.connect.anew.Goals as goal
+
+pub reply-w-requires : goal.reply-w-requires
+reply-w-requires c = search (openings, replies, long, rules)
+
+pub returns-in-Refused : goal.returns-in-Refused
+returns-in-Refused c = search (openings, replies, long, rules)
+
+pub returns-in-Whole : goal.returns-in-Whole
+returns-in-Whole c = search (openings, replies, long, rules)
