@@ -108,11 +108,11 @@ kind_is k s m lent = go (eqb k 9) (eqb k 12) (eqb k 5) (eqb k 6) (eqb k 21) refl
 
     go : (a b c d f : Bool) → eqb k 9 ≡ a → eqb k 12 ≡ b → eqb k 5 ≡ c → eqb k 6 ≡ d → eqb k 21 ≡ f → (((not a && not b) && not c) && not d) && not f ≡ false
         → kind_begins s k m lent ≡ begins s (started_by k 0) m lent
-    go true b c d f p q r t u e = at 9 p (begin_any s _ m lent)
-    go false true c d f p q r t u e = at 12 q (begin_any s _ m lent)
-    go false false true d f p q r t u e = at 5 r (begin_any s _ m lent)
-    go false false false true f p q r t u e = at 6 t (begin_any s _ m lent)
-    go false false false false true p q r t u e = at 21 u (begin_any s _ m lent)
+    go true b c d f p q r t u e = at 9 p (begin_any s (record { start = 9; rsp = 10; cmp = 11 }) m lent)
+    go false true c d f p q r t u e = at 12 q (begin_any s (record { start = 12; rsp = 2; cmp = 13 }) m lent)
+    go false false true d f p q r t u e = at 5 r (begin_any s (record { start = 5; rsp = 15; cmp = 16 }) m lent)
+    go false false false true f p q r t u e = at 6 t (begin_any s (record { start = 6; rsp = 17; cmp = 18 }) m lent)
+    go false false false false true p q r t u e = at 21 u (begin_any s (record { start = 21; rsp = 22; cmp = 23 }) m lent)
     go false false false false false p q r t u e = true_false e
 
 kind_none : (k : ℕ) (s : Session) (m : Message) (lent : List ℕ) → is_none k ≡ true → kind_begins s k m lent ≡ Outcome.refused 17

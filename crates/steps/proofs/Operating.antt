@@ -79,17 +79,17 @@ pub record Known : Type 0 where
 pub known : Known
 unfolding in_open operation_by station_starts centre_starts command_of commands place_in
 known = record {
-  ping = record { is = λ s g z. start_any s g _ z };
-  det = record { is = λ s g z. start_any s g _ z };
-  ul_data = record { is = λ s g z. start_any s g _ z };
+  ping = record { is = λ s g z. start_any s g (record { start = 9; rsp = 10; cmp = 11 }) z };
+  det = record { is = λ s g z. start_any s g (record { start = 3; rsp = 4; cmp = 14 }) z };
+  ul_data = record { is = λ s g z. start_any s g (record { start = 7; rsp = 19; cmp = 20 }) z };
   ping_cmp = record { is = λ s g z. refl };
   det_cmp = record { is = λ s g z. refl };
   ul_data_cmp = record { is = λ s g z. refl };
-  ping_rsp = record { is = λ s g z. answer_any s _ z };
-  status_rsp = record { is = λ s g z. answer_any s _ z };
-  att_prp_rsp = record { is = λ s g z. answer_any s _ z };
-  det_prp_rsp = record { is = λ s g z. answer_any s _ z };
-  dl_data_que_rsp = record { is = λ s g z. answer_any s _ z };
+  ping_rsp = record { is = λ s g z. answer_any s (record { start = 9; rsp = 10; cmp = 11 }) z };
+  status_rsp = record { is = λ s g z. answer_any s (record { start = 12; rsp = 2; cmp = 13 }) z };
+  att_prp_rsp = record { is = λ s g z. answer_any s (record { start = 5; rsp = 15; cmp = 16 }) z };
+  det_prp_rsp = record { is = λ s g z. answer_any s (record { start = 6; rsp = 17; cmp = 18 }) z };
+  dl_data_que_rsp = record { is = λ s g z. answer_any s (record { start = 21; rsp = 22; cmp = 23 }) z };
 }
 
 module _ (d room : List ℕ) (sign command n : ℕ) (z : ℤ) (f : SFits w64 z) (e : command ≡ n) where

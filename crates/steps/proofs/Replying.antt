@@ -131,11 +131,13 @@ module _ (s : Session) (m : Message) (h : Host) (a : Able m h) where
 
     all_started : (sign : ℕ) → Each (λ o. Fitting (starts s sign o z)) station_starts
     unfolding station_starts command_of commands place_in
-    all_started sign = (started sign _ refl, (started sign _ refl, (started sign _ refl, tt)))
+    all_started sign =
+        (started sign (record { start = 9; rsp = 10; cmp = 11 }) refl, (started sign (record { start = 3; rsp = 4; cmp = 14 }) refl, (started sign (record { start = 7; rsp = 19; cmp = 20 }) refl, tt)))
 
     all_answered : Each (λ o. Fitting (respond_at s o z (entry_place z o.start s.centre))) centre_starts
     unfolding centre_starts command_of commands place_in
-    all_answered = (answered _ refl, (answered _ refl, (answered _ refl, (answered _ refl, (answered _ refl, tt)))))
+    all_answered =
+        (answered (record { start = 9; rsp = 10; cmp = 11 }) refl, (answered (record { start = 12; rsp = 2; cmp = 13 }) refl, (answered (record { start = 5; rsp = 15; cmp = 16 }) refl, (answered (record { start = 6; rsp = 17; cmp = 18 }) refl, (answered (record { start = 21; rsp = 22; cmp = 23 }) refl, tt)))))
 
     operating : (sign c : ℕ) → Fitting (in_open s sign c z)
     unfolding in_open
