@@ -1,8 +1,6 @@
-use Rattle.std.proofs.Common.{arith}
-use Rattle.std.proofs.lemmas.Grind.{common_steps}
-use borrow.Author.Rules.{rules}
-use Rattle.steps.proofs.Calling.{callings}
-use Rattle.std.proofs.Common.{rules}
+-- While waiting nothing changes; else the state and the mark are stored. Assumes nothing.
+use Rattle.std.proofs.Common.{rules, ap, not}
+use Rattle.steps.proofs.{Losing.lost_waiting, Losing.lost_stored, Calling.callings}
 use Rattle.steps.proofs.lose.Goals as goal
 
 pub bounds-d-344 : goal.bounds-d-344
@@ -12,7 +10,8 @@ pub bounds-d-345 : goal.bounds-d-345
 bounds-d-345 c = search (callings, rules)
 
 pub returns-then-d-eq-WAITING : goal.returns-then-d-eq-WAITING
-returns-then-d-eq-WAITING c = ?
+returns-then-d-eq-WAITING c =
+    lost_waiting _ _ c.is_session.ensures _ (ap not c.if-not-is_session.false) c.type_inv.d c.if-d-eq-WAITING.true c.done.ensures
 
 pub returns : goal.returns
-returns c = ?
+returns c = lost_stored _ _ c.is_session.ensures _ (ap not c.if-not-is_session.false) (search rules) c.if-d-eq-WAITING.false c.done-2.ensures
