@@ -1,7 +1,0 @@
--- Its branches are those of the definition. Assumes nothing.
-use borrow.Author.Rules.{rules}
-use Rattle.chozukpima.proofs.{Queues.queues, downlinks.chz_cancel.Statement.statement}
-use Rattle.chozukpima.proofs.downlinks.chz_cancel.Tie as tie
-
-pub chz-cancel-spec : {M : Type 1} → statement M
-chz-cancel-spec = tie.close (tie.spec (λ c κs. search (queues, rules)) (λ c κs. search (queues, rules)) (λ c. search (queues, rules)) (λ c. search (queues, rules)))
