@@ -1,6 +1,5 @@
 # For the tests in C, which set $root and source this file: the tools they need, and the archive in $archive.
 # CHZ_ARCHIVE names another archive than the repository's.
-export X86_CC=gcc
 out=$root/target/host
 mkdir -p "$out"
 
@@ -15,14 +14,14 @@ need() { # COMMAND PACKAGES
 }
 case $(uname -m) in
 x86_64) need cc 'gcc libc6-dev' ;;
-*) need x86_64-linux-gnu-gcc 'gcc-x86-64-linux-gnu libc6-dev-amd64-cross' ;;
+*)
+    need x86_64-linux-gnu-gcc 'gcc-x86-64-linux-gnu libc6-dev-amd64-cross'
+    need qemu-x86_64 qemu-user
+    ;;
 esac
 
 archive=${CHZ_ARCHIVE:-$root/target/staticlib/libchozukpima.a}
-old() { [ ! -e "$archive" ] || [ -n "$(find "$root/crates" -type f -newer "$archive" 2>/dev/null | head -n 1)" ]; }
-if [ -z "${CHZ_ARCHIVE:-}" ] && old; then
-    (cd "$root" && rt staticlib chozukpima) >"$out/staticlib.log" 2>&1 || { cat "$out/staticlib.log" >&2; exit 2; }
-fi
+[ -n "${CHZ_ARCHIVE:-}" ] || "$root/tools/build" chozukpima >"$out/build.log" 2>&1 || { cat "$out/build.log" >&2; exit 2; }
 
 compile() { # FILE.c, relative to the repository; the object is named after it
     sh "$root/tools/x86.sh" cc "$out/$(basename "$1" .c).o" "$root/$1" -std=c11 -Werror -I "$root/include"

@@ -18,8 +18,7 @@ fn queue_answer(a: queue::Answer) -> u64
 }
 
 // Takes the lowest free place for a downlink; 15, 27, 28.
-#[unsafe(no_mangle)]
-pub extern "C" fn chz_add(store: &mut [u8], message: &[u8], lent: &[u8]) -> u64
+pub fn chz_add(store: &mut [u8], message: &[u8], lent: &[u8]) -> u64
     ensures { ◌≡◌ {A = Filled} (filled result store.new) (add_returns store.old message.now lent.now) }
 {
     if message.len() != layout::SIZE {
@@ -29,24 +28,21 @@ pub extern "C" fn chz_add(store: &mut [u8], message: &[u8], lent: &[u8]) -> u64
 }
 
 // Frees the place of a queue ID; 15, 29.
-#[unsafe(no_mangle)]
-pub extern "C" fn chz_cancel(store: &mut [u8], id: u64) -> u64
+pub fn chz_cancel(store: &mut [u8], id: u64) -> u64
     ensures { ◌≡◌ {A = Filled} (filled result store.new) (cancel_returns store.old id) }
 {
     queue_answer(queue::cancel(store, id))
 }
 
 // The best suitable entry, which is removed, and where its data stand; 15, 30.
-#[unsafe(no_mangle)]
-pub extern "C" fn chz_choose(store: &mut [u8], meter: u64, counter: u32, expected: u8) -> u64
+pub fn chz_choose(store: &mut [u8], meter: u64, counter: u32, expected: u8) -> u64
     ensures { ◌≡◌ {A = Filled} (filled result store.new) (choose_returns store.old meter counter expected) }
 {
     queue_answer(queue::choose(store, meter, counter, expected != 0))
 }
 
 // Whether the bytes are a queue that calls made from an empty one: 1 or 0.
-#[unsafe(no_mangle)]
-pub extern "C" fn chz_sound(store: &[u8]) -> u64
+pub fn chz_sound(store: &[u8]) -> u64
     ensures { result ≡ sound_answer store.now }
 {
     if queue::is_sound(store) {

@@ -1,10 +1,10 @@
-// What a host program in C calls: numbers and byte slices in, one number out. include/chozukpima.h declares it.
+// What a host calls: numbers and byte slices in, one number out. `chozukpima_c` exports it to C.
 #![tactic(auto)]
 
 mod answer;
-mod downlinks;
-mod messages;
-mod sessions;
-mod stream;
-mod table;
-mod traces;
+pub mod downlinks;
+pub mod messages;
+pub mod sessions;
+pub mod stream;
+pub mod table;
+pub mod traces;

@@ -13,8 +13,7 @@ fn step_answer(a: steps::Answer) -> u64
 }
 
 // A message arrives: what happened, and how many bytes of reply stand in the room; 15, then 17, 18, 16 or 19, 20.
-#[unsafe(no_mangle)]
-pub extern "C" fn chz_arrive(
+pub fn chz_arrive(
     session: &mut [u8],
     message: &[u8],
     lent: &[u8],
@@ -34,8 +33,7 @@ pub extern "C" fn chz_arrive(
 }
 
 // The centre begins an operation: its message stands in the room under the ID issued; 15 for an image, 17, 18, 19, 15, 20.
-#[unsafe(no_mangle)]
-pub extern "C" fn chz_begin(session: &mut [u8], message: &[u8], lent: &[u8], room: &mut [u8]) -> u64
+pub fn chz_begin(session: &mut [u8], message: &[u8], lent: &[u8], room: &mut [u8]) -> u64
     ensures { ◌≡◌ {A = Returned} (returned result session.new room.new)
         (begin_returns session.old message.now lent.now room.old) }
 {
@@ -47,8 +45,7 @@ pub extern "C" fn chz_begin(session: &mut [u8], message: &[u8], lent: &[u8], roo
 }
 
 // The connection is lost; 15.
-#[unsafe(no_mangle)]
-pub extern "C" fn chz_lost(session: &mut [u8]) -> u64
+pub fn chz_lost(session: &mut [u8]) -> u64
     ensures { (result ≡ step_answer (lost_answer session.old)) × (session.new ≡ lost_session session.old) }
 {
     step_answer(steps::lose(session))

@@ -9,8 +9,7 @@ use element::Walked;
 use frame::Framed;
 
 // A frame at the start of the bytes: how many bytes it takes; 1, 2, 3.
-#[unsafe(no_mangle)]
-pub extern "C" fn chz_frame(bytes: &[u8]) -> u64
+pub fn chz_frame(bytes: &[u8]) -> u64
     ensures { result ≡ frame_answer (framed_of bytes.now) }
 {
     match frame::read(bytes) {
@@ -20,8 +19,7 @@ pub extern "C" fn chz_frame(bytes: &[u8]) -> u64
 }
 
 // The form of a payload alone: how many elements it has; 3 to 10, with the place for 4 to 10.
-#[unsafe(no_mangle)]
-pub extern "C" fn chz_form(payload: &[u8]) -> u64
+pub fn chz_form(payload: &[u8]) -> u64
     ensures { result ≡ form_answer (walk_of payload.now) }
 {
     walked(walk::walk(payload))

@@ -45,8 +45,7 @@ fn credit_answer(c: Credit) -> u64
 }
 
 // The meter's row; 24, 21.
-#[unsafe(no_mangle)]
-pub extern "C" fn chz_find(
+pub fn chz_find(
     used: &[u8],
     euis: &[u64],
     shorts: &[u16],
@@ -61,8 +60,7 @@ pub extern "C" fn chz_find(
 }
 
 // Takes the lowest free row for a meter; 24, 22, 23.
-#[unsafe(no_mangle)]
-pub extern "C" fn chz_enrol(
+pub fn chz_enrol(
     used: &mut [u8],
     euis: &mut [u64],
     shorts: &mut [u16],
@@ -79,8 +77,7 @@ pub extern "C" fn chz_enrol(
 }
 
 // Frees the meter's row; 24, 21.
-#[unsafe(no_mangle)]
-pub extern "C" fn chz_withdraw(
+pub fn chz_withdraw(
     used: &mut [u8],
     euis: &[u64],
     shorts: &[u16],
@@ -95,8 +92,7 @@ pub extern "C" fn chz_withdraw(
 }
 
 // Credits a packet: new or a copy, how many stations heard it, and the meter's row; 24, 25, 21, 26.
-#[unsafe(no_mangle)]
-pub extern "C" fn chz_uplink(
+pub fn chz_uplink(
     used: &[u8],
     euis: &[u64],
     shorts: &[u16],

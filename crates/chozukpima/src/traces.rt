@@ -14,22 +14,14 @@ fn wrote_answer(w: Wrote) -> u64
 }
 
 // The start of a trace, at the start of the room; 20.
-#[unsafe(no_mangle)]
-pub extern "C" fn chz_trace_start(room: &mut [u8]) -> u64
+pub fn chz_trace_start(room: &mut [u8]) -> u64
     ensures { ◌≡◌ {A = Filled} (filled result room.new) (trace_start_returns room.old) }
 {
     wrote_answer(trace::write_start(room))
 }
 
 // A record, at the start of the room; its gap is added to the time; 34, 25, 35, 20.
-#[unsafe(no_mangle)]
-pub extern "C" fn chz_record(
-    time: &mut u64,
-    gap: u64,
-    station: u64,
-    frame: &[u8],
-    room: &mut [u8],
-) -> u64
+pub fn chz_record(time: &mut u64, gap: u64, station: u64, frame: &[u8], room: &mut [u8]) -> u64
     ensures { ◌≡◌ {A = Timed} (timed result time.new room.new) (record_returns time.old gap station frame.now room.old) }
 {
     let w = trace::write(room, *time, gap, station, frame);
@@ -41,8 +33,7 @@ pub extern "C" fn chz_record(
 }
 
 // The start of a trace in bytes: how many it takes; 33, 32, 31.
-#[unsafe(no_mangle)]
-pub extern "C" fn chz_trace_open(bytes: &[u8]) -> u64
+pub fn chz_trace_open(bytes: &[u8]) -> u64
     ensures { result ≡ open_answer (start_of bytes.now) }
 {
     let n = trace::start(bytes);
@@ -50,8 +41,7 @@ pub extern "C" fn chz_trace_open(bytes: &[u8]) -> u64
 }
 
 // A record at the start of the bytes; its gap is added to the time; 33, 32, 34, 25, 35.
-#[unsafe(no_mangle)]
-pub extern "C" fn chz_recorded(time: &mut u64, bytes: &[u8]) -> u64
+pub fn chz_recorded(time: &mut u64, bytes: &[u8]) -> u64
     ensures { ◌≡◌ {A = Advanced} (advanced result time.new) (recorded_returns time.old bytes.now) }
 {
     let e = trace::read(bytes, *time);
