@@ -2,34 +2,53 @@
 // examples of limits. Prints a line for each wrong answer, and a summary.
 #![tactic(auto)]
 
+ghost use Rattle.std.specs.Prelude.{IfOk, ◌≤◌, length};
+
 mod limits;
 mod payload;
 mod text;
 mod vector;
 
-use libc::STDIN_FILENO;
+use std::io;
+use std::io::Read;
 use vector::Tally;
 
-fn main() {
-    let mut input = io::large_buffer();
-    let mut room = io::large_buffer();
-    let n = io::read_full(STDIN_FILENO, &mut input);
+// A read or a write that fails ends the run with its error.
+fn main(rt: HostRuntime) -> io::Result<()> {
+    let mut input = [0; 65536];
+    let mut room = [0; 65536];
+    let n = read_full(&mut rt.stdin(), &mut input)?;
     if n == input.len() {
-        text::say(b"the input is longer than the buffer\n");
+        println!(rt; "the input is longer than the buffer")?;
     }
-    let tally = vectors(&input[..n], &mut room);
-    vector::print(tally);
-    limits::run(&mut room);
+    let tally = vectors(&rt, &input[..n], &mut room)?;
+    vector::print(&rt, tally)?;
+    limits::run(&rt, &mut room)
+}
+
+// Reads until the buffer is full or the input ends, and returns how many bytes now stand at its start.
+fn read_full<R: Read>(reader: &mut R, buf: &mut [u8]) -> io::Result<usize>
+    ensures { IfOk result (λ n. n ≤ length buf.new) }
+{
+    let mut done = 0;
+    while done < buf.len() {
+        let n = reader.read(&mut buf[done..])?;
+        if n == 0 {
+            break;
+        }
+        done += n;
+    }
+    Ok(done)
 }
 
 // Every line of the input.
-fn vectors(input: &[u8], room: &mut [u8]) -> Tally {
+fn vectors(rt: &impl Print, input: &[u8], room: &mut [u8]) -> io::Result<Tally> {
     let mut tally = vector::none();
     let mut from = 0;
     while from < input.len() {
         let end = text::line_end(input, from);
-        tally = vector::line(text::part(input, from, end), room, tally);
+        tally = vector::line(rt, text::part(input, from, end), room, tally)?;
         from = end + 1;
     }
-    tally
+    Ok(tally)
 }

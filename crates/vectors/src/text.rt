@@ -1,8 +1,6 @@
 // Words and figures of a line. Every function takes any bytes.
 ghost use Rattle.std.specs.Prelude.{◌≤◌, length};
 
-use libc::STDOUT_FILENO;
-
 // A number, where the text is one.
 #[derive(Clone, Copy)]
 pub struct Figure {
@@ -130,12 +128,4 @@ fn digit(b: u8) -> u64 {
 // One more, and no more than fits.
 pub fn next(n: u64) -> u64 {
     if n < u64::MAX { n + 1 } else { n }
-}
-
-pub fn say(s: &[u8]) {
-    io::write_all(STDOUT_FILENO, s);
-}
-
-pub fn say_number(n: u64) {
-    io::print_decimal(STDOUT_FILENO, n);
 }

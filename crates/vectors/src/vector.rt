@@ -1,6 +1,7 @@
 // One vector: a line of the input, its payload, and what the walk and the number reader are to say of it.
 use crate::text::Figure;
 use crate::{payload, text};
+use std::io;
 
 // How many lines, cuts and numbers were tried, and how many answers were wrong.
 #[derive(Clone, Copy)]
@@ -31,54 +32,45 @@ pub fn none() -> Tally {
     }
 }
 
-pub fn print(t: Tally) {
-    text::say_number(t.lines);
-    text::say(b" vectors, ");
-    text::say_number(t.cuts);
-    text::say(b" cuts, ");
-    text::say_number(t.numbers);
-    text::say(b" numbers, ");
-    text::say_number(t.wrong);
-    text::say(b" wrong\n");
+pub fn print(rt: &impl Print, t: Tally) -> io::Result<()> {
+    println!(rt;
+        "{} vectors, {} cuts, {} numbers, {} wrong",
+        t.lines, t.cuts, t.numbers, t.wrong
+    )
 }
 
 // Every test of one line.
-pub fn line(s: &[u8], room: &mut [u8], tally: Tally) -> Tally {
+pub fn line(rt: &impl Print, s: &[u8], room: &mut [u8], tally: Tally) -> io::Result<Tally> {
     let mut t = tally;
     t.lines = text::next(t.lines);
     let said = read(s);
     let n = payload::with_hex(room, text::word(s, 0));
     if !said.good {
         return judged(
+            rt,
             t,
             false,
-            b"words, HEX, elements, kind and value, at least",
+            "words, HEX, elements, kind and value, at least",
             3,
         );
     }
     if n == 0 {
-        return judged(t, false, b"bytes in hex, at least", 1);
+        return judged(rt, t, false, "bytes in hex, at least", 1);
     }
     payload::put(room, n, 0);
-    t = form(room, n, said, t);
-    t = cuts(room, n, said, t);
-    number(room, n, said, t)
+    t = form(rt, room, n, said, t)?;
+    t = cuts(rt, room, n, said, t)?;
+    number(rt, room, n, said, t)
 }
 
 // A wrong answer is counted, and printed with the line's number and what was expected.
-fn judged(tally: Tally, right: bool, expected: &[u8], x: u64) -> Tally {
+fn judged(rt: &impl Print, tally: Tally, right: bool, expected: &str, x: u64) -> io::Result<Tally> {
     let mut t = tally;
     if !right {
         t.wrong = text::next(t.wrong);
-        text::say(b"wrong: line ");
-        text::say_number(t.lines);
-        text::say(b": expected ");
-        text::say(expected);
-        text::say(b" ");
-        text::say_number(x);
-        text::say(b"\n");
+        println!(rt; "wrong: line {}: expected {expected} {x}", t.lines)?;
     }
-    t
+    Ok(t)
 }
 
 // The words behind the bytes.
@@ -129,70 +121,78 @@ fn broken(said: Said) -> usize {
 }
 
 // The whole payload, and with a byte added.
-fn form(room: &[u8], n: usize, said: Said, tally: Tally) -> Tally {
+fn form(rt: &impl Print, room: &[u8], n: usize, said: Said, tally: Tally) -> io::Result<Tally> {
     if said.kind == b'k' {
         let at = broken(said);
         let t = judged(
+            rt,
             tally,
             payload::is_refused(room, n, 8, at),
-            b"refusal 8 at",
+            "refusal 8 at",
             at as u64,
-        );
+        )?;
         let right = payload::is_refused(room, sum(n, 1), 8, at);
-        return judged(t, right, b"refusal 8, with a byte added, at", at as u64);
+        return judged(rt, t, right, "refusal 8, with a byte added, at", at as u64);
     }
     let elements = sum(6, said.elements);
     let t = judged(
+        rt,
         tally,
         payload::is_whole(room, n, elements),
-        b"elements",
+        "elements",
         elements as u64,
-    );
+    )?;
     let right = payload::is_refused(room, sum(n, 1), 10, n);
-    judged(t, right, b"refusal 10 at", n as u64)
+    judged(rt, t, right, "refusal 10 at", n as u64)
 }
 
 // The payload cut behind each byte, and to nothing.
-fn cuts(room: &[u8], n: usize, said: Said, tally: Tally) -> Tally {
+fn cuts(rt: &impl Print, room: &[u8], n: usize, said: Said, tally: Tally) -> io::Result<Tally> {
     let at = broken(said);
     let mut t = tally;
     let mut k = 0;
     while k < n {
-        t = cut(room, k, at, t);
+        t = cut(rt, room, k, at, t)?;
         k += 1;
     }
-    t
+    Ok(t)
 }
 
 // The payload cut to k bytes: 3 for nothing, 8 where a key's lead byte is there that is no text's, else 4.
-fn cut(room: &[u8], k: usize, at: usize, tally: Tally) -> Tally {
+fn cut(rt: &impl Print, room: &[u8], k: usize, at: usize, tally: Tally) -> io::Result<Tally> {
     let mut t = tally;
     t.cuts = text::next(t.cuts);
     let number = payload::refusal(room, k);
     if k == 0 {
-        return judged(t, number == 3, b"refusal 3 of the cut to", 0);
+        return judged(rt, t, number == 3, "refusal 3 of the cut to", 0);
     }
     if at < k {
-        return judged(t, number == 8, b"refusal 8 of the cut to", k as u64);
+        return judged(rt, t, number == 8, "refusal 8 of the cut to", k as u64);
     }
-    judged(t, number == 4, b"refusal 4 of the cut to", k as u64)
+    judged(rt, t, number == 4, "refusal 4 of the cut to", k as u64)
 }
 
 // The value as a number.
-fn number(room: &[u8], n: usize, said: Said, tally: Tally) -> Tally {
+fn number(rt: &impl Print, room: &[u8], n: usize, said: Said, tally: Tally) -> io::Result<Tally> {
     let mut t = tally;
     if said.kind == b'i' {
         t.numbers = text::next(t.numbers);
         let right = payload::is_whole_number(room, n, said.minus, said.x);
-        return judged(t, right, b"the integer, its sign left out,", said.x);
+        return judged(rt, t, right, "the integer, its sign left out,", said.x);
     }
     if said.kind == b'f' {
         t.numbers = text::next(t.numbers);
         let right = payload::is_real(room, n, said.x);
-        return judged(t, right, b"the float whose 64 bits are the number", said.x);
+        return judged(
+            rt,
+            t,
+            right,
+            "the float whose 64 bits are the number",
+            said.x,
+        );
     }
     let right = payload::is_none(room, n);
-    judged(t, right, b"no number at", payload::VALUE as u64)
+    judged(rt, t, right, "no number at", payload::VALUE as u64)
 }
 
 // The sum, or the largest number where that is less.
