@@ -1,29 +1,13 @@
 -- No byte at hand is lost: neither where bytes are passed over, nor where the rest goes to the front and a piece is read behind it. Assumes nothing.
-use mathlib.Core.{Path.◌≡◌, Path.refl, Path.sym, Path.ap, Path.◌∙◌, List.List, List.[], List.◌++◌}
-use Prim.Native.Nat.{ℕ, ◌+◌, ◌-◌, ◌≤◌, ◌<◌, min}
-use native.Mathlib.Nat.{min-eq_left, min-eq_right}
+use mathlib.Core.{Path.◌≡◌, Path.sym, Path.ap, Path.◌∙◌, List.List, List.[], List.◌++◌}
+use Prim.Native.Nat.{ℕ, ◌+◌, ◌-◌, ◌≤◌, min}
+use native.Mathlib.Nat.{min-eq_left}
 use native.Mathlib.Omega.{arith}
-use lib.{ListN.length, ListN.take, ListN.drop, ListN.get_or, ListN.length-drop}
-use lib.Seq.{length-take-le, take_at, take-add, get_or-take, get_or-drop, ext_get_or}
+use lib.{ListN.length, ListN.take, ListN.drop}
+use lib.Seq.{take-add}
 use borrow.Author.Tests.{le-leb}
 use Rattle.octets.proofs.Places.{append-nil}
 use Rattle.hand.specs.Code.Part.{part_of, Sound, Follows}
-
--- a place further on, at most the last
-pub moved_past : (at n last : ℕ) → last < at → last ≡ min (at + n) last
-moved_past at n last h = omega arith
-
-pub moved_beyond : (at n last : ℕ) → at ≤ last → last - at < n → last ≡ min (at + n) last
-moved_beyond at n last h l = omega arith
-
-pub moved_within : (at n last : ℕ) → at ≤ last → n ≤ last - at → at + n ≡ min (at + n) last
-moved_within at n last h l = omega arith
-
-pub ruleset moving = (moved_past, moved_beyond, moved_within)
-
--- what a call leaves in front of the part that it was lent
-pub front_kept : (d ys : List ℕ) (n a k : ℕ) → a ≤ length d → a ≡ min n (length d) → take (min n (length d)) (take a d ++ (ys ++ drop k (drop a d))) ≡ take (min n (length d)) d
-front_kept d ys n a k h e = rw (← e) (take_at (take a d) (ys ++ drop k (drop a d)) a (length-take-le a d h))
 
 part_is : (d : List ℕ) (from to : ℕ) → from ≤ to → to ≤ length d → part_of d from to ≡ take (to - from) (drop from d)
 unfolding part_of
@@ -34,40 +18,36 @@ pub same_follows : (d : List ℕ) (from to : ℕ) → Sound d from to → Follow
 same_follows d from to s = record { sound = s; more = []; same = sym (append-nil (part_of d from to)) }
 
 -- the rest is at the front, and a piece behind it
-module _ (d e f : List ℕ) (from to n got : ℕ) (c : n ≡ min to (length d) - from) (g : (k : ℕ) → k < n → get_or e k 0 ≡ get_or d (from + k) 0)
+module _ (d e f : List ℕ) (from to n got : ℕ) (c : n ≡ min to (length d) - from) (g : take n e ≡ take n (drop from d))
     (a : length e ≡ length d) (b : length f ≡ length e) (t : take (min n (length e)) f ≡ take (min n (length e)) e) (m : ℕ) (q : m ≡ min (n + got) (length f)) where
   module _ (s : Sound d from to) where
     count : n ≡ to - from
     count = let o = s.ordered in let p = s.there in omega arith
 
-    fits : n ≤ length e
+    pub fits : n ≤ length e
     fits = let p = s.there in omega (arith, count)
 
     front : take n f ≡ take n e
     front = rw (min-eq_left fits) at t
 
-    moved : take n e ≡ take n (drop from d)
-    moved =
-        let o = s.ordered in
-        let p = s.there in
-        let l : n ≤ length (drop from d) = omega (arith, count, length-drop from d) in
-        ext_get_or 0 (take n e) (take n (drop from d)) (length-take-le n e fits ∙ sym (length-take-le n (drop from d) l))
-        (λ i h. let k : i < n = omega (arith, length-take-le n e fits) in
-        get_or-take n e i 0 k ∙ g i k ∙ sym (get_or-drop from d i 0) ∙ sym (get_or-take n (drop from d) i 0 k))
-
     behind : n ≤ m
     behind = omega (arith, fits)
 
+    pub parted : part_of f 0 m ≡ part_of d from to ++ take (m - n) (drop n f)
+    parted =
+        part_is f 0 m (omega arith) (omega arith)
+        ∙ ap (λ k. take k f) (let h = behind in let z : m - 0 ≡ n + (m - n) = omega arith in z)
+        ∙ take-add n (m - n) f
+        ∙ ap (λ l. l ++ take (m - n) (drop n f)) (front ∙ g ∙ ap (λ k. take k (drop from d)) count ∙ sym (part_is d from to s.ordered s.there))
+
     pub refilled : Follows (part_of d from to) f 0 m
-    refilled = record {
-      sound = record { ordered = omega arith; there = omega arith };
-      more = take (m - n) (drop n f);
-      same =
-          part_is f 0 m (omega arith) (omega arith)
-          ∙ ap (λ k. take k f) (let h = behind in let z : m - 0 ≡ n + (m - n) = omega arith in z)
-          ∙ take-add n (m - n) f
-          ∙ ap (λ l. l ++ take (m - n) (drop n f)) (front ∙ moved ∙ ap (λ k. take k (drop from d)) count ∙ sym (part_is d from to s.ordered s.there));
-    }
+    refilled = record { sound = record { ordered = omega arith; there = omega arith }; more = take (m - n) (drop n f); same = parted }
+
+-- the rest is at the front, and the read behind it failed
+module _ (d e f : List ℕ) (from to n : ℕ) (c : n ≡ min to (length d) - from) (g : take n e ≡ take n (drop from d))
+    (a : length e ≡ length d) (b : length f ≡ length e) (t : take (min n (length e)) f ≡ take (min n (length e)) e) (s : Sound d from to) where
+  pub not_read : Follows (part_of d from to) f 0 n
+  not_read = let q : n ≡ min (n + 0) (length f) = (let p = s.there in omega arith) in refilled d e f from to n 0 c g a b t n q s
 
 -- bytes are passed over
 module _ (d : List ℕ) (from to used v : ℕ) (q : v ≡ min (from + used) (length d)) where

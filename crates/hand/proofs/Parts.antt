@@ -1,9 +1,8 @@
 -- A part of a buffer, and none. Assumes nothing.
-use mathlib.Core.{Path.◌≡◌, Path.refl, List.List, List.[]}
+use mathlib.Core.{Path.◌≡◌, List.List}
 use Prim.Native.Nat.{ℕ, ◌-◌, ◌≤◌, ◌<◌}
 use lib.{ListN.length, ListN.take, ListN.drop}
 use borrow.Author.Tests.{le-leb, lt-leb}
-use Rattle.octets.specs.Choice.{either}
 use Rattle.hand.specs.Code.Part.{part_of}
 
 module _ (s : List ℕ) (a e : ℕ) where

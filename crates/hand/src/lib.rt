@@ -1,15 +1,16 @@
-// Bytes at hand: a buffer that is filled in pieces from a descriptor, and text that waits to be written. What a program does with the bytes stands in its
-// turns; here what is left of a piece goes to the front of the next. A read or a write that fails ends the run with a line on standard error: a program has no
-// exit status here, so that a script can tell by it.
+// Bytes at hand: a buffer that is filled in pieces from a reader, and text that waits to be written. What a program does with the bytes stands in its
+// turns; here what is left of a piece goes to the front of the next. A read or a write that fails is the caller's to tell of.
 #![tactic(auto)]
 
 ghost use mathlib.Core.{Path.◌≡◌, Bool.false, Bool.◌&&◌, Bool.not};
-ghost use Rattle.std.specs.Prelude.{ℕ, ◌+◌, ◌-◌, ◌≤◌, ◌<◌, min};
-ghost use lib.{Dec.eqb, ListN.length, ListN.take, ListN.get_or};
+ghost use Rattle.std.specs.Prelude.{ℕ, ◌+◌, ◌-◌, ◌≤◌, ◌<◌, min, OnOk, OnErr, IfOk, IsTrue, MatchResult};
+ghost use Rattle.std.specs.Io.KnownBytes.{Appends, Consumes, IsAtEnd, Keeps, append_known, prepend_known};
+ghost use lib.{Dec.eqb, ListN.length, ListN.take, ListN.drop};
 ghost use Rattle.hand.specs.Code.Part.{part_of, Sound, Follows};
 
-use libc::STDOUT_FILENO;
 use lines::Took;
+use std::io;
+use std::io::{Read, Write};
 
 // A turn prints at most so many bytes.
 const MOST_TEXT: usize = 80;
@@ -24,11 +25,11 @@ pub struct Hand {
     pub ended: bool,
 }
 
-// What a read gave: so many bytes, or none because it failed.
-#[derive(Clone, Copy)]
-struct Got {
-    failed: bool,
-    bytes: usize,
+// Which of the two failed, and why.
+#[derive(Clone, Copy, Debug)]
+pub enum Failed {
+    Read(io::Error),
+    Write(io::Error),
 }
 
 // Nothing at hand.
@@ -51,108 +52,105 @@ pub fn waits(took: Took) -> bool
     (took.used == 0) & !took.ended
 }
 
-// Behind a turn: its bytes are passed over and its text waits to be written. Where it waits for bytes, the text is written and a piece is read from the
-// descriptor, whose name is told where that fails; the text is written too where a line may have no room.
-pub fn turned(
-    fd: i32,
-    input: &[u8],
-    output: &[u8],
+// Behind a turn: its bytes are passed over and its text waits to be written. Where it waits for bytes, the text is written and a piece is read; the text
+// is written too where a line may have no room. Where a read or a write fails, the bytes at hand are still there.
+#[tactic(auto, using(crate::proofs::Following::turning, crate::proofs::Streams::texts))]
+pub fn turned<R: Read, W: Write>(
+    reader: &mut R,
+    writer: &mut W,
     held: &mut [u8],
     out: &[u8],
-    h: Hand,
+    h: &mut Hand,
     took: Took,
-) -> Hand
-    ensures { Sound held.old h.from h.to → took.used ≤ h.to - h.from
-        → Follows (part_of held.old (h.from + took.used) h.to) held.new result.from result.to }
+) -> Result<(), Failed>
+    ensures held { Sound held.old h.old.from h.old.to → took.used ≤ h.old.to - h.old.from
+        → Follows (part_of held.old (h.old.from + took.used) h.old.to) held.new h.new.from h.new.to }
+    ensures read { Sound held.old h.old.from h.old.to → took.used ≤ h.old.to - h.old.from
+        → Keeps (prepend_known (part_of held.old (h.old.from + took.used) h.old.to) (R.remaining reader.old))
+        (prepend_known (part_of held.new h.new.from h.new.to) (R.remaining reader.new)) }
+    ensures ended { h.new.ended ≡ took.ended }
+    ensures last { OnOk result ((IsTrue h.old.last → IsAtEnd (R.remaining reader.old)) → h.old.to - h.old.from < length held.old
+        → IsTrue h.new.last → IsAtEnd (R.remaining reader.new)) }
+    ensures written { OnOk result (Keeps
+        (append_known (W.contents writer.old) (part_of out.now 0 (min (h.old.filled + took.length) (length out.now))))
+        (append_known (W.contents writer.new) (part_of out.now 0 h.new.filled))) }
+    ensures err { OnErr result (h.new.filled ≡ 0) }
 {
-    let next = Hand {
-        from: moved(h.from, took.used, held.len()),
-        to: h.to,
-        filled: moved(h.filled, took.length, out.len()),
-        last: h.last,
-        ended: took.ended,
-    };
+    h.from = moved(h.from, took.used, held.len());
+    h.filled = moved(h.filled, took.length, out.len());
+    h.ended = took.ended;
     if waits(took) {
-        return refill(fd, input, held, flushed(output, out, next));
+        flushed(writer, out, h)?;
+        return refill(reader, held, h);
     }
-    if left(out.len(), next.filled) < MOST_TEXT {
-        return flushed(output, out, next);
+    if out.len().saturating_sub(h.filled) < MOST_TEXT {
+        return flushed(writer, out, h);
     }
-    next
+    Ok(())
 }
 
-// The text is written; where it can't be, nothing more is done.
-pub fn flushed(output: &[u8], out: &[u8], h: Hand) -> Hand
-    ensures from { result.from ≡ h.from }
-    ensures to { result.to ≡ h.to }
-    ensures filled { result.filled ≡ 0 }
-    ensures last { result.last ≡ h.last }
+// The text is written, and waits no more; where it can't be, some of it may be written.
+pub fn flushed<W: Write>(writer: &mut W, out: &[u8], h: &mut Hand) -> Result<(), Failed>
+    ensures from { h.new.from ≡ h.old.from }
+    ensures to { h.new.to ≡ h.old.to }
+    ensures filled { h.new.filled ≡ 0 }
+    ensures last { h.new.last ≡ h.old.last }
+    ensures ended { h.new.ended ≡ h.old.ended }
+    ensures written { OnOk result (Appends (W.contents writer.old) (W.contents writer.new) (part_of out.now 0 h.old.filled)) }
 {
-    let is_written = io::write_all(STDOUT_FILENO, part(out, 0, h.filled));
-    if !is_written {
-        os::fail(output);
-    }
-    Hand {
-        from: h.from,
-        to: h.to,
-        filled: 0,
-        last: h.last,
-        ended: h.ended | !is_written,
-    }
+    let text = part(out, 0, h.filled);
+    h.filled = 0;
+    writer.write_all(text).map_err(Failed::Write)
 }
 
 // The bytes at hand go to the front, and a piece is read behind them. There is room for one: a turn waits on fewer bytes than the buffer has.
-fn refill(fd: i32, input: &[u8], held: &mut [u8], h: Hand) -> Hand
-    ensures { Sound held.old h.from h.to → Follows (part_of held.old h.from h.to) held.new result.from result.to }
+#[tactic(auto, using(crate::proofs::Streams::refilling))]
+fn refill<R: Read>(reader: &mut R, held: &mut [u8], h: &mut Hand) -> Result<(), Failed>
+    ensures filled { h.new.filled ≡ h.old.filled }
+    ensures ended { h.new.ended ≡ h.old.ended }
+    ensures held { Sound held.old h.old.from h.old.to → Follows (part_of held.old h.old.from h.old.to) held.new h.new.from h.new.to }
+    ensures read { Sound held.old h.old.from h.old.to → Keeps (prepend_known (part_of held.old h.old.from h.old.to) (R.remaining reader.old))
+        (prepend_known (part_of held.new h.new.from h.new.to) (R.remaining reader.new)) }
+    ensures last { OnOk result (min h.old.to (length held.old) - h.old.from < length held.old
+        → IsTrue h.new.last → IsAtEnd (R.remaining reader.new)) }
 {
-    if h.ended {
-        return h;
-    }
     let n = to_front(held, h.from, h.to);
-    let got = read_behind(fd, input, held, n);
-    Hand {
-        from: 0,
-        to: moved(n, got.bytes, held.len()),
-        filled: h.filled,
-        last: got.bytes == 0,
-        ended: got.failed,
-    }
+    h.from = 0;
+    h.to = n;
+    let got = read_behind(reader, held, n).map_err(Failed::Read)?;
+    h.to = moved(n, got, held.len());
+    h.last = got == 0;
+    Ok(())
 }
 
-fn read_behind(fd: i32, input: &[u8], held: &mut [u8], n: usize) -> Got
-    ensures { take (min n (length held.old)) held.new ≡ take (min n (length held.old)) held.old }
+fn read_behind<R: Read>(reader: &mut R, held: &mut [u8], n: usize) -> io::Result<usize>
+    ensures front { take (min n (length held.old)) held.new ≡ take (min n (length held.old)) held.old }
+    ensures behind { MatchResult result
+        (λ k. (k ≤ length held.old - min n (length held.old))
+        × Consumes (R.remaining reader.old) (R.remaining reader.new) (take k (drop (min n (length held.old)) held.new)))
+        (λ _. Keeps (R.remaining reader.old) (R.remaining reader.new)) }
+    ensures end { IfOk result (λ k. k ≡ 0 → n < length held.old → IsAtEnd (R.remaining reader.new)) }
 {
     let from = at_most(n, held.len());
-    let got = libc::read(fd, &mut held[from..]);
-    if got < 0 {
-        os::fail(input);
-    }
-    Got {
-        failed: got < 0,
-        bytes: io::count(got, &held[from..]),
-    }
+    reader.read(&mut held[from..])
 }
 
 // The bytes at hand, moved to the front; the answer is how many they are.
 fn to_front(held: &mut [u8], from: usize, to: usize) -> usize
     ensures value { result ≡ min to (length held.old) - from }
-    ensures by_index { (k : ℕ) → k < result → get_or held.new k 0 ≡ get_or held.old (from + k) 0 }
+    ensures front { take result held.new ≡ take result (drop from held.old) }
 {
     let end = at_most(to, held.len());
     if from == 0 {
         return end;
     }
-    let mut n = 0;
-    let mut i = from;
-    while i < end {
-        held[n] = held[i];
-        n += 1;
-        i += 1;
-    }
-    n
+    let start = at_most(from, end);
+    held.copy_within(start..end, 0);
+    end - start
 }
 
 // The part of s from a to e; empty where s has no such part.
+#[tactic(auto, using(crate::proofs::Parts::parts))]
 pub fn part(s: &[u8], a: usize, e: usize) -> &[u8]
     ensures { result.now ≡ part_of s.now a e }
 {
@@ -169,17 +167,7 @@ pub fn part(s: &[u8], a: usize, e: usize) -> &[u8]
 fn moved(at: usize, n: usize, last: usize) -> usize
     ensures { result ≡ min (at + n) last }
 {
-    if last < at {
-        return last;
-    }
-    if last - at < n {
-        return last;
-    }
-    at + n
-}
-
-fn left(len: usize, at: usize) -> usize {
-    if len < at { 0 } else { len - at }
+    at_most(at.saturating_add(n), last)
 }
 
 pub fn at_most(n: usize, most: usize) -> usize
