@@ -2,9 +2,10 @@
 // another. A read or a write that fails ends the run without the last line.
 #![tactic(auto)]
 
-use hand::Hand;
-use libc::STDIN_FILENO;
+use hand::{Failed, Hand};
 use lines::Took;
+use std::io::{Read, Write};
+use std::process::ExitCode;
 
 // The bytes at hand, and the next frame's number.
 #[derive(Clone, Copy)]
@@ -13,42 +14,48 @@ struct State {
     number: u64,
 }
 
-// A proved loop has to end, so it counts down from a number that no run uses up.
-fn main() {
-    let mut held = io::large_buffer();
-    let mut out = io::large_buffer();
+fn main(rt: HostRuntime) -> ExitCode {
+    let told = match frames(&mut rt.stdin(), &mut rt.stdout()) {
+        Ok(()) => return ExitCode::SUCCESS,
+        Err(Failed::Read(e)) => eprintln!(rt; "frames: standard input: {e}"),
+        Err(Failed::Write(e)) => eprintln!(rt; "frames: standard output: {e}"),
+    };
+    // Where standard error can't be written to, the status alone tells.
+    let _ = told;
+    ExitCode::FAILURE
+}
+
+// A proved loop has to end, so it counts up to a number that no run reaches.
+fn frames<R: Read, W: Write>(input: &mut R, output: &mut W) -> Result<(), Failed> {
+    let mut held = [0; 65536];
+    let mut out = [0; 65536];
     let mut state = State {
         hand: hand::empty(),
         number: 0,
     };
-    let mut steps = u64::MAX;
-    while steps > 0 && !state.hand.ended {
-        state = step(&mut held, &mut out, state);
-        steps -= 1;
+    for _ in 0..u64::MAX {
+        if state.hand.ended {
+            break;
+        }
+        step(input, output, &mut held, &mut out, &mut state)?;
     }
-    hand::flushed(b"frames: standard output", &out, state.hand);
+    hand::flushed(output, &out, &mut state.hand)
 }
 
 // One turn.
-fn step(held: &mut [u8], out: &mut [u8], s: State) -> State {
+fn step<R: Read, W: Write>(
+    input: &mut R,
+    output: &mut W,
+    held: &mut [u8],
+    out: &mut [u8],
+    s: &mut State,
+) -> Result<(), Failed> {
     let took = turn(held, out, s);
-    let h = s.hand;
-    let next = hand::turned(
-        STDIN_FILENO,
-        b"frames: standard input",
-        b"frames: standard output",
-        held,
-        out,
-        h,
-        took,
-    );
-    State {
-        hand: next,
-        number: count(s.number, took.used),
-    }
+    s.number = count(s.number, took.used);
+    hand::turned(input, output, held, out, &mut s.hand, took)
 }
 
-fn turn(held: &[u8], out: &mut [u8], s: State) -> Took {
+fn turn(held: &[u8], out: &mut [u8], s: &State) -> Took {
     let h = s.hand;
     let filled = hand::at_most(h.filled, out.len());
     lines::turn(
