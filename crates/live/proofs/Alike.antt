@@ -151,7 +151,7 @@ module _ (s : Session) where
     unfolding in_waiting in_connecting in_open operation_by station_starts command_of commands place_in
     uplink_in Waiting = refl
     uplink_in Connecting = refl
-    uplink_in Open = refusal_test (is_below (highest_of s) z) _ _ _ _ (start_refusal _ z (four_of h.sign) (four_of g.sign) (free_place s.station)) refl
+    uplink_in Open = refusal_test (is_below (highest_of s) z) _ _ _ _ (start_refusal (record { start = 7; rsp = 19; cmp = 20 }) z (four_of h.sign) (four_of g.sign) (free_place s.station)) refl
 
     uplink_plain : (d : List ℕ) → own_refusal (arrives s uplink d h) ≡ own_refusal (arrives (plain s) uplink d g)
     unfolding arrives

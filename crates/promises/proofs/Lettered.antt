@@ -169,7 +169,7 @@ PlainFields (field u e fs) = Plain e × PlainFields fs
 said_plain : (k : List ℕ) (x : Said) (fs : Fields) → PlainSaid x → PlainFields fs → PlainSaid (said_from k x fs)
 unfolding said_from
 said_plain k x no_field p f = p
-said_plain k x (field u e fs) p f = said_plain k _ fs (go (same_bytes k u) x p) f.1
+said_plain k x (field u e fs) p f = said_plain k (either (same_bytes k u) (λ _. again e x) (λ _. x)) fs (go (same_bytes k u) x p) f.1
   where
     go : (b : Bool) (x : Said) → PlainSaid x → PlainSaid (either b (λ _. again e x) (λ _. x))
     go true Said.absent p = f.0
