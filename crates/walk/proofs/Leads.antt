@@ -14,6 +14,12 @@ use Rattle.element.specs.declared.Head.{Head}
 use Rattle.element.specs.{Lead.head_of, Lead.lead_bytes, Lead.row_in, Form.is_text, Form.is_map}
 use Rattle.walk.specs.Code.Short.{Announces, two_to}
 
+-- three numbers are equal to others where a test says so
+pub same_three : (a b c x y z : ℕ) → T (eqb a x && (eqb b y && eqb c z)) → (a ≡ x) × (b ≡ y) × (c ≡ z)
+same_three a b c x y z t =
+    let r = both_right (eqb a x) (eqb b y && eqb c z) t in
+    (eqb→eq a x (both_left (eqb a x) (eqb b y && eqb c z) t), eqb→eq b y (both_left (eqb b y) (eqb c z) r), eqb→eq c z (both_right (eqb b y) (eqb c z) r))
+
 -- 2 to the k
 module _ (k : ℕ) where
   pub two_0 : k ≡ 0 → 1 ≡ two_to k
@@ -53,40 +59,25 @@ shape_at_lem Text = refl
 shape_at_lem Array = refl
 shape_at_lem Map = refl
 
-abbrev same_head : Head → Head → Bool
+abbrev pub same_head : Head → Head → Bool
 same_head h g = eqb (shape_number h.shape) (shape_number g.shape) && (eqb h.wide g.wide && eqb h.more g.more)
 
-module _ (h g : Head) where
-  shapes : Bool
-  shapes = eqb (shape_number h.shape) (shape_number g.shape)
-
-  wides : Bool
-  wides = eqb h.wide g.wide
-
-  mores : Bool
-  mores = eqb h.more g.more
-
-  same_head_lem : T (same_head h g) → h ≡ g
-  unfolding shapes wides mores
-  same_head_lem t =
-      let wm = both_right shapes (wides && mores) t in
-      let s : h.shape ≡ g.shape =
-      sym (shape_at_lem h.shape)
-      ∙ ap shape_at (eqb→eq (shape_number h.shape) (shape_number g.shape) (both_left shapes (wides && mores) t))
-      ∙ shape_at_lem g.shape in
-      let w : h.wide ≡ g.wide = eqb→eq h.wide g.wide (both_left wides mores wm) in
-      let m : h.more ≡ g.more = eqb→eq h.more g.more (both_right wides mores wm) in
-      λ i. record { shape = s i; wide = w i; more = m i }
+same_head_lem : (h g : Head) → T (same_head h g) → h ≡ g
+same_head_lem h g t =
+    let e = same_three (shape_number h.shape) h.wide h.more (shape_number g.shape) g.wide g.more t in
+    let s : h.shape ≡ g.shape = sym (shape_at_lem h.shape) ∙ ap shape_at e.0 ∙ shape_at_lem g.shape in
+    λ i. record { shape = s i; wide = e.1 i; more = e.2 i }
 
 -- a head by its parts
 abbrev pub row : Shape → ℕ → ℕ → Head
 row h w m = record { shape = h; wide = w; more = m }
 
--- the heads of the n lead bytes from lo on, by a formula f
+-- the heads of the n numbers from lo on, by a formula f
+pub heads_in : (f g : ℕ → Head) (lo n : ℕ) → T (all (λ k. same_head (f k) (g k)) lo n) → (b : ℕ) → lo ≤ b → b < lo + n → f b ≡ g b
+heads_in f g lo n t b h l = same_head_lem (f b) (g b) (ranged (λ k. same_head (f k) (g k)) lo n t b h l)
+
 says_in : (f : ℕ → Head) (lo n : ℕ) → T (all (λ k. same_head (f k) (head_of k)) lo n) → (b : ℕ) → lo ≤ b → b < lo + n → (r : Head) → r ≡ f b → Announces b r
-says_in f lo n t b g h r e =
-    rw (e ∙ same_head_lem (f b) (head_of b) (ranged (λ k. same_head (f k) (head_of k)) lo n t b g h))
-    (record { is = refl; wide = head_wide b; more = head_more b })
+says_in f lo n t b g h r e = rw (e ∙ heads_in f head_of lo n t b g h) (record { is = refl; wide = head_wide b; more = head_more b })
 
 -- the answers of the code
 module _ (b : ℕ) (r : Head) where
@@ -152,54 +143,54 @@ module _ (b t : ℕ) where
 
 pub ruleset sayings = (says_low, says_high, says_nil, says_fixmap, says_fixarray, says_fixtext, says_never, says_bin, says_ext, says_number, says_fixext, says_text, says_array, says_map)
 
--- the tests for texts and maps, by ranges
-module _ (f : Shape → Bool) (lo n : ℕ) where
-  passes_in : T (all (λ k. f (head_of k).shape) lo n) → (b : ℕ) → lo ≤ b → b < lo + n → true ≡ f (head_of b).shape
-  passes_in t b g h = is_true (f (head_of b).shape) (ranged (λ k. f (head_of k).shape) lo n t b g h)
+-- the tests for texts and maps, by ranges of lead bytes or of entries
+module _ (f : Shape → Bool) (h : ℕ → Head) (lo n : ℕ) where
+  pub passes_in : T (all (λ k. f (h k).shape) lo n) → (b : ℕ) → lo ≤ b → b < lo + n → true ≡ f (h b).shape
+  passes_in t b g l = is_true (f (h b).shape) (ranged (λ k. f (h k).shape) lo n t b g l)
 
-  fails_in : T (all (λ k. not (f (head_of k).shape)) lo n) → (b : ℕ) → lo ≤ b → b < lo + n → false ≡ f (head_of b).shape
-  fails_in t b g h = is_false (f (head_of b).shape) (ranged (λ k. not (f (head_of k).shape)) lo n t b g h)
+  pub fails_in : T (all (λ k. not (f (h k).shape)) lo n) → (b : ℕ) → lo ≤ b → b < lo + n → false ≡ f (h b).shape
+  fails_in t b g l = is_false (f (h b).shape) (ranged (λ k. not (f (h k).shape)) lo n t b g l)
 
 module _ (b : ℕ) where
   pub text_low : b < 0xA0 → false ≡ is_text (head_of b).shape
   unfolding head_of lead_bytes row_in
-  text_low h = fails_in is_text 0 0xA0 tt b (omega arith) (omega arith)
+  text_low h = fails_in is_text head_of 0 0xA0 tt b (omega arith) (omega arith)
 
   pub text_fix : 0xA0 ≤ b → b < 0xC0 → true ≡ is_text (head_of b).shape
   unfolding head_of lead_bytes row_in
-  text_fix g h = passes_in is_text 0xA0 0x20 tt b g (omega arith)
+  text_fix g h = passes_in is_text head_of 0xA0 0x20 tt b g (omega arith)
 
   pub text_mark : 0xC0 ≤ b → b < 0xD9 → false ≡ is_text (head_of b).shape
   unfolding head_of lead_bytes row_in
-  text_mark g h = fails_in is_text 0xC0 0x19 tt b g (omega arith)
+  text_mark g h = fails_in is_text head_of 0xC0 0x19 tt b g (omega arith)
 
   pub text_long : 0xD9 ≤ b → b < 0xDC → true ≡ is_text (head_of b).shape
   unfolding head_of lead_bytes row_in
-  text_long g h = passes_in is_text 0xD9 3 tt b g (omega arith)
+  text_long g h = passes_in is_text head_of 0xD9 3 tt b g (omega arith)
 
   pub text_high : 0xDC ≤ b → b < 256 → false ≡ is_text (head_of b).shape
   unfolding head_of lead_bytes row_in
-  text_high g h = fails_in is_text 0xDC 0x24 tt b g (omega arith)
+  text_high g h = fails_in is_text head_of 0xDC 0x24 tt b g (omega arith)
 
   pub map_low : b < 0x80 → false ≡ is_map (head_of b).shape
   unfolding head_of lead_bytes row_in
-  map_low h = fails_in is_map 0 0x80 tt b (omega arith) (omega arith)
+  map_low h = fails_in is_map head_of 0 0x80 tt b (omega arith) (omega arith)
 
   pub map_fix : 0x80 ≤ b → b < 0x90 → true ≡ is_map (head_of b).shape
   unfolding head_of lead_bytes row_in
-  map_fix g h = passes_in is_map 0x80 0x10 tt b g (omega arith)
+  map_fix g h = passes_in is_map head_of 0x80 0x10 tt b g (omega arith)
 
   pub map_mid : 0x90 ≤ b → b < 0xDE → false ≡ is_map (head_of b).shape
   unfolding head_of lead_bytes row_in
-  map_mid g h = fails_in is_map 0x90 0x4E tt b g (omega arith)
+  map_mid g h = fails_in is_map head_of 0x90 0x4E tt b g (omega arith)
 
   pub map_long : 0xDE ≤ b → b < 0xE0 → true ≡ is_map (head_of b).shape
   unfolding head_of lead_bytes row_in
-  map_long g h = passes_in is_map 0xDE 2 tt b g (omega arith)
+  map_long g h = passes_in is_map head_of 0xDE 2 tt b g (omega arith)
 
   pub map_high : 0xE0 ≤ b → b < 256 → false ≡ is_map (head_of b).shape
   unfolding head_of lead_bytes row_in
-  map_high g h = fails_in is_map 0xE0 0x20 tt b g (omega arith)
+  map_high g h = fails_in is_map head_of 0xE0 0x20 tt b g (omega arith)
 
 pub ruleset texts = (text_low, text_fix, text_mark, text_long, text_high)
 

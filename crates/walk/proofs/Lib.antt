@@ -1,6 +1,8 @@
 pub mod Leads
+pub mod Tables
 pub mod Sizes
 pub mod Quick
+pub mod Entries
 pub mod Elements
 pub mod Turns
 pub mod Runs

@@ -1,3 +1,4 @@
 pub mod Short
 pub mod Turn
 pub mod Run
+pub mod Table

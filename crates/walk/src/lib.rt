@@ -3,10 +3,12 @@
 // because the levels left or the items left fall, and it visits at most 1,024 elements.
 #![tactic(auto)]
 
+pub mod entry;
 pub mod lead;
 mod run;
 mod short;
 pub mod steps;
+pub mod table;
 
 ghost use Rattle.std.specs.Prelude.{◌≡◌, ◌<◌, length};
 ghost use Rattle.element.specs.Form.{Role, element_of, walk_of};

@@ -2,7 +2,6 @@
 use borrow.Author.Rules.{rules}
 use Rattle.meters.proofs.Laws.{scans}
 use Rattle.std.proofs.Common.{rules}
-use mathlib.Core.Bool.{false}
 use native.Mathlib.Omega.{arith}
 use borrow.Author.Count.{below_none, below_more}
 use borrow.Author.Tests.{ne_eqb}
