@@ -15,13 +15,18 @@ struct State {
 }
 
 fn main(rt: HostRuntime) -> ExitCode {
-    let told = match frames(&mut rt.stdin(), &mut rt.stdout()) {
-        Ok(()) => return ExitCode::SUCCESS,
-        Err(Failed::Read(e)) => eprintln!(rt; "frames: standard input: {e}"),
-        Err(Failed::Write(e)) => eprintln!(rt; "frames: standard output: {e}"),
+    match frames(&mut rt.stdin(), &mut rt.stdout()) {
+        Ok(()) => ExitCode::SUCCESS,
+        Err(e) => failed(&rt, e),
+    }
+}
+
+// A line on standard error; where that can't be written to, the status alone tells.
+fn failed(rt: &impl Eprint, e: Failed) -> ExitCode {
+    let _ = match e {
+        Failed::Read(e) => eprintln!(rt; "frames: standard input: {e}"),
+        Failed::Write(e) => eprintln!(rt; "frames: standard output: {e}"),
     };
-    // Where standard error can't be written to, the status alone tells.
-    let _ = told;
     ExitCode::FAILURE
 }
 

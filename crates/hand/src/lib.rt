@@ -3,7 +3,8 @@
 #![tactic(auto)]
 
 ghost use mathlib.Core.{Path.◌≡◌, Bool.false, Bool.◌&&◌, Bool.not};
-ghost use Rattle.std.specs.Prelude.{ℕ, ◌+◌, ◌-◌, ◌≤◌, ◌<◌, min, OnOk, OnErr, IfOk, IsTrue, MatchResult};
+ghost use Rattle.std.specs.Prelude.{ℕ, ◌+◌, ◌-◌, ◌≤◌, ◌<◌, min, OnOk, OnErr, IfOk, IfErr, IsErrOf, IsTrue, MatchResult};
+ghost use Rattle.std.specs.declared.io.Error.{Error};
 ghost use Rattle.std.specs.Io.KnownBytes.{Appends, Consumes, IsAtEnd, Keeps, append_known, prepend_known};
 ghost use lib.{Dec.eqb, ListN.length, ListN.take, ListN.drop};
 ghost use Rattle.hand.specs.Code.Part.{part_of, Sound, Follows};
@@ -75,6 +76,10 @@ pub fn turned<R: Read, W: Write>(
         (append_known (W.contents writer.old) (part_of out.now 0 (min (h.old.filled + took.length) (length out.now))))
         (append_known (W.contents writer.new) (part_of out.now 0 h.new.filled))) }
     ensures err { OnErr result (h.new.filled ≡ 0) }
+    ensures read_failed { (x : Error) → IsErrOf result (Failed.Read x) → Keeps
+        (append_known (W.contents writer.old) (part_of out.now 0 (min (h.old.filled + took.length) (length out.now))))
+        (append_known (W.contents writer.new) (part_of out.now 0 0)) }
+    ensures write_failed { (x : Error) → IsErrOf result (Failed.Write x) → held.new ≡ held.old }
 {
     h.from = moved(h.from, took.used, held.len());
     h.filled = moved(h.filled, took.length, out.len());
@@ -97,6 +102,7 @@ pub fn flushed<W: Write>(writer: &mut W, out: &[u8], h: &mut Hand) -> Result<(),
     ensures last { h.new.last ≡ h.old.last }
     ensures ended { h.new.ended ≡ h.old.ended }
     ensures written { OnOk result (Appends (W.contents writer.old) (W.contents writer.new) (part_of out.now 0 h.old.filled)) }
+    ensures err { IfErr result (λ e. (x : Error) × (e ≡ Failed.Write x)) }
 {
     let text = part(out, 0, h.filled);
     h.filled = 0;
@@ -113,6 +119,7 @@ fn refill<R: Read>(reader: &mut R, held: &mut [u8], h: &mut Hand) -> Result<(), 
         (prepend_known (part_of held.new h.new.from h.new.to) (R.remaining reader.new)) }
     ensures last { OnOk result (min h.old.to (length held.old) - h.old.from < length held.old
         → IsTrue h.new.last → IsAtEnd (R.remaining reader.new)) }
+    ensures err { IfErr result (λ e. (x : Error) × (e ≡ Failed.Read x)) }
 {
     let n = to_front(held, h.from, h.to);
     h.from = 0;

@@ -1,5 +1,6 @@
 // The enrolments, one turn after another.
-use hand::Hand;
+use hand::{Failed, Hand};
+use std::io::{Read, Write};
 
 // The bytes at hand; whether all enrolments were taken.
 #[derive(Clone, Copy)]
@@ -8,9 +9,10 @@ struct Enrolling {
     complete: bool,
 }
 
-// All enrolments; whether none was refused. A proved loop has to end, so it counts down from a number that no run uses up.
-pub fn enrol_all(
-    fd: i32,
+// All enrolments; whether none was refused. A proved loop has to end, so it counts up to a number that no run reaches.
+pub fn enrol_all<R: Read, W: Write>(
+    enrolments: &mut R,
+    output: &mut W,
     held: &mut [u8],
     out: &mut [u8],
     used: &mut [u8],
@@ -18,23 +20,27 @@ pub fn enrol_all(
     shorts: &mut [u16],
     lasts: &mut [u32],
     heards: &mut [u64],
-) -> bool {
+) -> Result<bool, Failed> {
     let mut s = Enrolling {
         hand: hand::empty(),
         complete: false,
     };
-    let mut steps = u64::MAX;
-    while steps > 0 && !s.hand.ended {
-        s = enrol(fd, held, out, used, euis, shorts, lasts, heards, s);
-        steps -= 1;
+    for _ in 0..u64::MAX {
+        if s.hand.ended {
+            break;
+        }
+        enrol(
+            enrolments, output, held, out, used, euis, shorts, lasts, heards, &mut s,
+        )?;
     }
-    hand::flushed(b"replay: standard output", out, s.hand);
-    s.complete
+    hand::flushed(output, out, &mut s.hand)?;
+    Ok(s.complete)
 }
 
 // One turn over the enrolments, which are complete where they end and nothing is printed.
-fn enrol(
-    fd: i32,
+fn enrol<R: Read, W: Write>(
+    enrolments: &mut R,
+    output: &mut W,
     held: &mut [u8],
     out: &mut [u8],
     used: &mut [u8],
@@ -42,8 +48,8 @@ fn enrol(
     shorts: &mut [u16],
     lasts: &mut [u32],
     heards: &mut [u64],
-    s: Enrolling,
-) -> Enrolling {
+    s: &mut Enrolling,
+) -> Result<(), Failed> {
     let h = s.hand;
     let filled = hand::at_most(h.filled, out.len());
     let took = day::enrol(
@@ -56,17 +62,6 @@ fn enrol(
         heards,
         &mut out[filled..],
     );
-    let next = hand::turned(
-        fd,
-        b"replay: enrolments",
-        b"replay: standard output",
-        held,
-        out,
-        h,
-        took,
-    );
-    Enrolling {
-        hand: next,
-        complete: took.ended & (took.length == 0),
-    }
+    s.complete = took.ended & (took.length == 0);
+    hand::turned(enrolments, output, held, out, &mut s.hand, took)
 }

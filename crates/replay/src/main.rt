@@ -7,58 +7,70 @@ mod files;
 mod progress;
 mod records;
 
+use hand::Failed;
+use std::io::{Read, Stderr, Write};
+use std::os::fd::AsRawFd;
+use std::process::ExitCode;
+
 // The rows of the table.
 const ROWS: usize = 1024;
 
 // Both files are opened before one is read. Where standard input is closed, the enrolments have its number.
-fn main() {
-    if os::arg_count() != 3 {
-        files::usage(b"replay: it takes two files");
-        return;
+fn main(rt: HostRuntime) -> ExitCode {
+    if !files::are_two(&rt) {
+        return files::usage(&rt, "replay: it takes two files");
     }
-    let enrolments = files::open(2, false);
-    if enrolments < 0 {
-        return;
+    let Some(mut enrolments) = files::open(&rt, 2) else {
+        return ExitCode::FAILURE;
+    };
+    let told = progress::told(rt.stderr());
+    if files::is_dash(&rt, 1) {
+        let mut trace = rt.stdin();
+        if enrolments.as_raw_fd() == trace.as_raw_fd() {
+            return files::usage(&rt, "replay: trace: standard input is not open");
+        }
+        return replay(&rt, told, &mut trace, &mut enrolments, &mut rt.stdout());
     }
-    let trace = files::open(1, true);
-    if trace < 0 {
-        return;
-    }
-    if trace == enrolments {
-        files::usage(b"replay: trace: standard input is not open");
-        return;
-    }
-    replay(trace, enrolments);
+    let Some(mut trace) = files::open(&rt, 1) else {
+        return ExitCode::FAILURE;
+    };
+    replay(&rt, told, &mut trace, &mut enrolments, &mut rt.stdout())
 }
 
-fn replay(trace: i32, enrolments: i32) {
-    let mut held = io::large_buffer();
-    let mut out = io::large_buffer();
-    let mut used = [0u8; ROWS];
-    let mut euis = [0u64; ROWS];
-    let mut shorts = [0u16; ROWS];
-    let mut lasts = [0u32; ROWS];
-    let mut heards = [0u64; ROWS];
-    let is_complete = enrolments::enrol_all(
-        enrolments,
-        &mut held,
-        &mut out,
-        &mut used,
-        &mut euis,
-        &mut shorts,
-        &mut lasts,
-        &mut heards,
-    );
-    if is_complete {
-        records::play_all(
-            trace,
-            &mut held,
-            &mut out,
-            &used,
-            &euis,
-            &shorts,
-            &mut lasts,
-            &mut heards,
-        );
+fn replay<T: Read, E: Read, W: Write>(
+    rt: &impl Eprint,
+    told: Option<Stderr>,
+    trace: &mut T,
+    enrolments: &mut E,
+    output: &mut W,
+) -> ExitCode {
+    let held = &mut [0; 65536];
+    let out = &mut [0; 65536];
+    let used = &mut [0; ROWS];
+    let euis = &mut [0; ROWS];
+    let shorts = &mut [0; ROWS];
+    let lasts = &mut [0; ROWS];
+    let heards = &mut [0; ROWS];
+    match enrolments::enrol_all(
+        enrolments, output, held, out, used, euis, shorts, lasts, heards,
+    ) {
+        Ok(true) => {}
+        Ok(false) => return ExitCode::SUCCESS,
+        Err(e) => return failed(rt, "enrolments", e),
     }
+    match records::play_all(
+        told, trace, output, held, out, used, euis, shorts, lasts, heards,
+    ) {
+        Ok(()) => ExitCode::SUCCESS,
+        Err(e) => failed(rt, "trace", e),
+    }
+}
+
+// A line on standard error; where that can't be written to, the status alone tells.
+fn failed(rt: &impl Eprint, input: &str, e: Failed) -> ExitCode {
+    let _ = match e {
+        Failed::Read(e) => eprintln!(rt; "replay: {input}: {e}"),
+        Failed::Write(e) => eprintln!(rt; "replay: standard output: {e}"),
+    };
+    ExitCode::FAILURE
 }

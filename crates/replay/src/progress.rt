@@ -1,18 +1,23 @@
 // Progress over a long trace, for who waits at a terminal: a line now and then.
-use libc::STDERR_FILENO;
+use std::io::{IsTerminal, Stderr};
 
 // So many turns go by between two lines.
 const TURNS: u64 = 1_048_576;
 
 // Only a terminal is told.
-pub fn is_told() -> bool {
-    libc::isatty(STDERR_FILENO) == 1
+pub fn told(stderr: Stderr) -> Option<Stderr> {
+    if stderr.is_terminal() {
+        Some(stderr)
+    } else {
+        None
+    }
 }
 
-pub fn tell(is_told: bool, steps: u64, records: u64) {
-    if is_told & (steps % TURNS == 0) {
-        io::write_all(STDERR_FILENO, b"replay: ");
-        io::print_decimal(STDERR_FILENO, records);
-        io::write_all(STDERR_FILENO, b" records\n");
+// Where a line can't be written, the trace is played all the same.
+pub fn tell(told: Option<Stderr>, turn: u64, records: u64) {
+    if turn % TURNS == TURNS - 1 {
+        if let Some(stderr) = told {
+            let _ = eprintln!(stderr; "replay: {records} records");
+        }
     }
 }

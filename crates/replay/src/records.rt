@@ -1,6 +1,7 @@
 // The trace, one turn after another: its start, then record by record.
-use hand::Hand;
+use hand::{Failed, Hand};
 use lines::Took;
+use std::io::{Read, Stderr, Write};
 
 // The sessions of 64 stations.
 const SESSIONS: usize = 23552;
@@ -14,9 +15,11 @@ struct Playing {
     records: u64,
 }
 
-// The whole trace.
-pub fn play_all(
-    fd: i32,
+// The whole trace. A proved loop has to end, so it counts up to a number that no run reaches.
+pub fn play_all<R: Read, W: Write>(
+    told: Option<Stderr>,
+    trace: &mut R,
+    output: &mut W,
     held: &mut [u8],
     out: &mut [u8],
     used: &[u8],
@@ -24,38 +27,30 @@ pub fn play_all(
     shorts: &[u16],
     lasts: &mut [u32],
     heards: &mut [u64],
-) {
-    let mut sessions = [0u8; SESSIONS];
-    let is_told = crate::progress::is_told();
-    let mut s = Playing {
+) -> Result<(), Failed> {
+    let sessions = &mut [0; SESSIONS];
+    let s = &mut Playing {
         hand: hand::empty(),
         started: false,
         sum: 0,
         records: 0,
     };
-    let mut steps = u64::MAX;
-    while steps > 0 && !s.hand.ended {
-        s = play(
-            fd,
-            held,
-            out,
-            &mut sessions,
-            used,
-            euis,
-            shorts,
-            lasts,
-            heards,
-            s,
-        );
-        crate::progress::tell(is_told, steps, s.records);
-        steps -= 1;
+    for turn in 0..u64::MAX {
+        if s.hand.ended {
+            break;
+        }
+        play(
+            trace, output, held, out, sessions, used, euis, shorts, lasts, heards, s,
+        )?;
+        crate::progress::tell(told, turn, s.records);
     }
-    hand::flushed(b"replay: standard output", out, s.hand);
+    hand::flushed(output, out, &mut s.hand)
 }
 
 // One turn over the trace.
-fn play(
-    fd: i32,
+fn play<R: Read, W: Write>(
+    trace: &mut R,
+    output: &mut W,
     held: &mut [u8],
     out: &mut [u8],
     sessions: &mut [u8; SESSIONS],
@@ -64,31 +59,14 @@ fn play(
     shorts: &[u16],
     lasts: &mut [u32],
     heards: &mut [u64],
-    s: Playing,
-) -> Playing {
-    let h = s.hand;
-    let mut sum = s.sum;
+    s: &mut Playing,
+) -> Result<(), Failed> {
     let took = turn(
-        held, out, s.started, &mut sum, sessions, used, euis, shorts, lasts, heards, h,
+        held, out, s.started, &mut s.sum, sessions, used, euis, shorts, lasts, heards, s.hand,
     );
-    Playing {
-        hand: behind(fd, held, out, h, took),
-        started: s.started | (took.used != 0),
-        sum: sum,
-        records: count(s.records, s.started, took.used),
-    }
-}
-
-fn behind(fd: i32, held: &mut [u8], out: &[u8], h: Hand, took: Took) -> Hand {
-    hand::turned(
-        fd,
-        b"replay: trace",
-        b"replay: standard output",
-        held,
-        out,
-        h,
-        took,
-    )
+    s.records = count(s.records, s.started, took.used);
+    s.started = s.started | (took.used != 0);
+    hand::turned(trace, output, held, out, &mut s.hand, took)
 }
 
 // The start of the trace, then record by record.
