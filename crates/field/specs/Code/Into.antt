@@ -29,7 +29,7 @@ into_by (some es) room to = either (leb (parts_counted es) (length room - to)) (
 unfoldable pub lead_into : List ℕ → ℕ → List ℕ → ℕ → List ℕ
 lead_into s at room to = into_by (parts_of (shallow_at s at)) room to
 
--- where a key's value stands, as for cellAt: nothing is read where it stands nowhere or in several places
+-- where a key's value stands, as for `cell_at`: nothing is read where it stands nowhere or in several places
 unfoldable pub read_into : List ℕ → ℕ → List ℕ → List ℕ
 read_into s zero room = room
 read_into s (suc zero) room = room
