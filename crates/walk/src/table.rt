@@ -1,4 +1,4 @@
-// The table of lead bytes: for each an entry that says all that document 01 says of it, as specs/code/Table.antt has it (`entries`).
+// The table of lead bytes: for each an entry that says all that document 01 says of it, as specs/Code/Table.antt has it (`entries`).
 //   00 to 7F  an element without parts: the last five bits are the bytes behind the lead byte
 //   80 to BF  a map or an array: the last five bits are its pairs or parts
 //   C0 to FF  bytes of length follow, as many as the last three bits say; none for the lead byte that is never used
