@@ -1,7 +1,6 @@
 // The two files that the program is called with. Where standard error can't be written to, the exit status alone tells.
 use std::env::{Env, FillError};
 use std::fmt::Display;
-use std::process::ExitCode;
 use std::rt::Files;
 use std::{fs, str};
 
@@ -9,11 +8,10 @@ use std::{fs, str};
 const PATH: usize = 4096;
 
 // What is wrong, and how the program is called.
-pub fn usage(rt: &impl Eprint, wrong: &str) -> ExitCode {
+pub fn usage(rt: &impl Eprint, wrong: &str) {
     let _ = eprintln!(rt;
         "{wrong}\ncalled as: replay TRACE ENROLMENTS (- as TRACE is standard input)"
     );
-    ExitCode::FAILURE
 }
 
 // Whether two arguments stand behind the program's name.

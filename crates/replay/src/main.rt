@@ -15,10 +15,12 @@ use std::process::ExitCode;
 // The rows of the table.
 const ROWS: usize = 1024;
 
-// Both files are opened before one is read. Where standard input is closed, the enrolments have its number.
+// Both files are opened before one is read. Where standard input is closed, the enrolments have its number. To be called otherwise is no failure, and is
+// answered by how it is called.
 fn main(rt: HostRuntime) -> ExitCode {
     if !files::are_two(&rt) {
-        return files::usage(&rt, "replay: it takes two files");
+        files::usage(&rt, "replay: it takes two files");
+        return ExitCode::SUCCESS;
     }
     let Some(mut enrolments) = files::open(&rt, 2) else {
         return ExitCode::FAILURE;
@@ -27,7 +29,8 @@ fn main(rt: HostRuntime) -> ExitCode {
     if files::is_dash(&rt, 1) {
         let mut trace = rt.stdin();
         if enrolments.as_raw_fd() == trace.as_raw_fd() {
-            return files::usage(&rt, "replay: trace: standard input is not open");
+            files::usage(&rt, "replay: trace: standard input is not open");
+            return ExitCode::FAILURE;
         }
         return replay(&rt, told, &mut trace, &mut enrolments, &mut rt.stdout());
     }
