@@ -79,6 +79,7 @@ pub fn grade_of(fault: u8, i: u8) -> u16
 }
 
 // The gravest fault with one field more, at place i of its list.
+#[tactic(auto, using(crate::proofs::Parts::passes))]
 fn passed(worst: u16, i: u8, must: bool, state: u8) -> u16
     requires { i < 64 }
     ensures { (c : Cell) → state ≡ cell_state c → result ≡ judged_as must i c worst }

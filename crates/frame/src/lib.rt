@@ -56,6 +56,7 @@ pub fn payload(s: &[u8], size: usize) -> &[u8]
 }
 
 // No byte that is there differs from the identifier's: both are compared as numbers, of eight bytes or of as many as are there.
+#[tactic(auto, using(crate::proofs::Identifier::agreements))]
 fn agrees(s: &[u8]) -> bool
     ensures { result ≡ agrees identifier s.now }
 {

@@ -49,6 +49,7 @@ fn group_at(s: &[u8], at: usize, more: u8) -> Number
 }
 
 // The tenth byte holds the one bit that is left.
+#[tactic(auto, using(crate::proofs::Reading::tenths))]
 fn tenth(b: u8, next: usize) -> Number
     ensures { result ≡ tenth_group b next }
 {

@@ -35,6 +35,7 @@ pub(crate) fn place(used: &[u8], euis: &[u64], eui: u64) -> usize
 }
 
 // The lowest free row, or the table's length.
+#[tactic(auto, using(crate::proofs::Laws::scans))]
 pub(crate) fn free_place(used: &[u8]) -> usize
     ensures { result ≡ free_row used.now }
 {

@@ -66,6 +66,7 @@ fn opened_map(s: &[u8]) -> Noted
 pub const NO_TEXT: u8 = 25;
 
 // The command's number by the place of its text.
+#[tactic(auto, using(crate::proofs::Naming::namings))]
 pub fn command_at(s: &[u8], place: u16) -> u8
     ensures { result ≡ command_at s.now place }
 {

@@ -101,6 +101,7 @@ fn new_reading(eui: u64, counter: u32) -> Credited
 }
 
 // The connection is lost where a con arrives.
+#[tactic(auto, using(crate::proofs::Arriving::before))]
 fn before_arrival(session: &mut [u8], b: Body)
     ensures { session.new ≡ before_arrival b session.old }
 {

@@ -80,6 +80,7 @@ pub fn highest_of(d: &[u8]) -> i64
     id
 }
 
+#[tactic(auto, using(crate::proofs::Knowing::lowest_zero, crate::proofs::Knowing::lowest_kept), unfolding(session::specs::Image::session_at))]
 pub fn lowest_of(d: &[u8]) -> i64
     requires { Lies d.now }
     ensures { result ≡ lowest_of (session_at d.now) }

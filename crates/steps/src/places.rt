@@ -7,6 +7,7 @@ ghost use Rattle.steps.specs.Code.Lies.{place_number};
 use crate::lies::{PLACES, id_at};
 
 // The lowest free place; 16 where there is none.
+#[tactic(auto, using(crate::proofs::Searching::free_here, crate::proofs::Searching::free_later, crate::proofs::Searching::free_none))]
 pub fn free_place(d: &[u8], ids: usize) -> usize
     requires { ids + 128 ≤ length d.now }
     ensures is { (kinds : ℕ) → result ≡ place_number (free_place (entries_at d.now ids kinds 16)) }

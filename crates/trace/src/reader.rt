@@ -42,6 +42,7 @@ pub fn read(s: &[u8], sum: u64) -> Entry
     station_at(s, n.value, n.next)
 }
 
+#[tactic(auto, using(crate::proofs::Reading::reading))]
 fn station_at(s: &[u8], gap: u64, at: usize) -> Entry
     ensures { result ≡ station_at s.now gap at }
 {

@@ -216,6 +216,7 @@ fn fault(s: &[u8], at: usize, count: usize, left: usize, key: bool) -> u8
 }
 
 // Where a body of n bytes ends, in a payload of len bytes.
+#[tactic(auto, using(crate::proofs::Elements::bodies))]
 fn body(len: usize, from: usize, n: usize) -> Span
     requires { from ≤ len }
     ensures { result ≡ body_of len from n }

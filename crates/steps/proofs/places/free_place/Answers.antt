@@ -1,5 +1,5 @@
 -- Whatever the kinds, the search goes on from place i as the definition does from there. i rises to sixteen. Assumes nothing.
-use Rattle.steps.proofs.Searching.{free_here, free_later, free_none}
+use Rattle.steps.proofs.Searching.{free_later}
 use mathlib.Core.Path.{refl}
 use borrow.Author.Rules.{rules}
 use Rattle.steps.proofs.places.free_place.Goals as goal
@@ -7,11 +7,5 @@ use Rattle.steps.proofs.places.free_place.Goals as goal
 pub loop-i-init : goal.loop-i-init
 loop-i-init c = (search rules, λ kinds. refl)
 
-pub returns-then-id_at-eq0-clause-is : goal.returns-then-id_at-eq0-clause-is
-returns-then-id_at-eq0-clause-is c = search (free_here, free_later, free_none, rules)
-
 pub loop-i-preserved : goal.loop-i-preserved
 loop-i-preserved c = search (free_later, rules)
-
-pub returns-clause-is : goal.returns-clause-is
-returns-clause-is c = search (free_here, free_later, free_none, rules)
