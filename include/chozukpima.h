@@ -10,7 +10,7 @@
  * columns has no rows, so chz_find, chz_withdraw and chz_uplink answer 21 and chz_enrol 23.
  *
  * No answer depends on the floating point mode (MXCSR) that the host runs in. Nothing is allocated. 6 kB of stack are enough for
- * every call; measured: chz_begin 3.1 kB, chz_write 3.0, chz_read 1.5, chz_arrive 1.2, the others below 1. */
+ * every call; measured with the older kit: chz_begin 3.1 kB, chz_write 3.0, chz_read 1.5, chz_arrive 1.2, the others below 1. */
 #ifndef CHOZUKPIMA_H
 #define CHOZUKPIMA_H
 
