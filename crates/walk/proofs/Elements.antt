@@ -5,28 +5,30 @@ use mathlib.Core.{Bool.Bool, Bool.true, Bool.false, List.List}
 use Prim.Native.Nat.{ℕ, ◌+◌, ◌-◌, ◌*◌, ◌^◌, ◌≤◌, ◌<◌}
 use native.Mathlib.Omega.{arith}
 use lib.{Dec.leb, Dec.lit<, Dec.lit≤, ListN.length, ListN.get_or}
+use Rattle.std.specs.Prelude.{Option, Some, None}
 use mir.Syntax.{w64}
 use mir.Val.{Fits}
 use borrow.Author.Tests.{le-leb, lt-leb, eq-eqb, ne_eqb}
+use Rattle.refusal.specs.declared.Refusal.{Refusal}
+use Rattle.refusal.specs.declared.Refusal.TheVariants as refusal
 use Rattle.octets.specs.Number.{big_at, if_there}
 use Rattle.octets.proofs.Widths.{within}
 use Rattle.element.specs.declared.Shape.{Shape, TheVariants.Array}
 use Rattle.element.specs.declared.Head.{Head}
 use Rattle.element.specs.declared.Span.{Span, TheVariants.Cut, TheVariants.Ends, TheVariants.Holds}
-use Rattle.element.specs.declared.Step.{Step, TheVariants.Next, TheVariants.Broken}
 use Rattle.element.specs.{Lead.row_in, Lead.lead_bytes, Lead.head_of, Code.Items.items_of}
-use Rattle.element.specs.Form.{Role, is_text, not_outer, fault_of, body_of, content_of, span_of, spanned, element_of}
+use Rattle.element.specs.Form.{Role, Step, next, broken, is_text, not_outer, fault_of, body_of, content_of, span_of, spanned, element_of}
 use Rattle.element.proofs.Steps.{fault_none, element_span, element_fault, body_ends}
 use Rattle.walk.specs.{Code.Short.Announces, Code.Turn.role_of}
 
 -- the tests of an element, in their order
 module _ (s : List ℕ) (left : ℕ) (key : Bool) (at count : ℕ) where
-  pub fault_4 : length s ≤ at → 4 ≡ fault_of s left (role_of key) at count
+  pub fault_4 : length s ≤ at → Some refusal.Cut ≡ fault_of s left (role_of key) at count
   unfolding fault_of
   fault_4 h = simp (le-leb _ _ h)
 
   module _ (h : at < length s) where
-    pub fault_5 : get_or s at 0 ≡ 0xC1 → 5 ≡ fault_of s left (role_of key) at count
+    pub fault_5 : get_or s at 0 ≡ 0xC1 → Some refusal.NeverUsed ≡ fault_of s left (role_of key) at count
     unfolding fault_of
     fault_5 e = simp (lt-leb _ _ h, eq-eqb _ _ e)
 
@@ -35,26 +37,26 @@ module _ (s : List ℕ) (left : ℕ) (key : Bool) (at count : ℕ) where
       inner true = refl
       inner false = refl
 
-      pub fault_7 : (most : ℕ) → most ≤ count → 1024 ≤ most → 7 ≡ fault_of s left (role_of key) at count
+      pub fault_7 : (most : ℕ) → most ≤ count → 1024 ≤ most → Some refusal.TooManyElements ≡ fault_of s left (role_of key) at count
       unfolding fault_of
       fault_7 most m k = simp (lt-leb _ _ h, ne_eqb _ _ e, inner key, le-leb 1024 count (omega arith))
 
       module _ (m : count < 1024) where
-        pub fault_6 : left ≡ 0 → 6 ≡ fault_of s left (role_of key) at count
+        pub fault_6 : left ≡ 0 → Some refusal.TooDeep ≡ fault_of s left (role_of key) at count
         unfolding fault_of
         fault_6 d = simp (lt-leb _ _ h, ne_eqb _ _ e, inner key, lt-leb _ _ m, eq-eqb _ _ d)
 
         module _ (d : left ≡ 0 → ⊥) where
-          pub fault_value : key ≡ false → 0 ≡ fault_of s left (role_of key) at count
+          pub fault_value : key ≡ false → None ≡ fault_of s left (role_of key) at count
           unfolding fault_of
           fault_value k = simp (lt-leb _ _ h, ne_eqb _ _ e, lt-leb _ _ m, ne_eqb _ _ d, k)
 
           module _ (k : key ≡ true) (r : Bool) (t : r ≡ is_text (head_of (get_or s at 0)).shape) where
-            pub fault_key : r ≡ true → 0 ≡ fault_of s left (role_of key) at count
+            pub fault_key : r ≡ true → None ≡ fault_of s left (role_of key) at count
             unfolding fault_of
             fault_key u = simp (lt-leb _ _ h, ne_eqb _ _ e, lt-leb _ _ m, ne_eqb _ _ d, k, sym t, u)
 
-            pub fault_8 : r ≡ false → 8 ≡ fault_of s left (role_of key) at count
+            pub fault_8 : r ≡ false → Some refusal.KeyNotText ≡ fault_of s left (role_of key) at count
             unfolding fault_of
             fault_8 u = simp (lt-leb _ _ h, ne_eqb _ _ e, lt-leb _ _ m, ne_eqb _ _ d, k, sym t, u)
 
@@ -113,7 +115,7 @@ is_long s at h e = (h, e)
 pub ruleset longs = (long_cut, long_holds, is_long, arith)
 
 -- an element without a fault, by its span
-module _ (s : List ℕ) (left : ℕ) (role : Role) (at count f : ℕ) (e : f ≡ fault_of s left role at count) (z : f ≡ 0) where
+module _ (s : List ℕ) (left : ℕ) (role : Role) (at count : ℕ) (f : Option Refusal) (e : f ≡ fault_of s left role at count) (z : f ≡ None) where
   pub there_is : at < length s
   there_is = (fault_none s left role at count (sym e ∙ z)).there
 
@@ -123,7 +125,7 @@ module _ (s : List ℕ) (left : ℕ) (role : Role) (at count f : ℕ) (e : f ≡
   pub level : 1 ≤ left
   level = (fault_none s left role at count (sym e ∙ z)).deep
 
-  pub sinks : (t : ℕ) → 4 * left ≡ t → 4 * (left - 1) + 3 < t
+  pub sinks : (t : ℕ) → 5 * left ≡ t → 5 * (left - 1) + 4 < t
   sinks t m = omega (arith, (fault_none s left role at count (sym e ∙ z)).deep)
 
   module _ (sp : Span) (p : sp ≡ span_of s at) where
@@ -131,10 +133,10 @@ module _ (s : List ℕ) (left : ℕ) (role : Role) (at count f : ℕ) (e : f ≡
     by_span x q =
         sym (element_span s left role at count (sym e ∙ z) ∙ ap (λ (y : Span). spanned (element_of s (left - 1)) y at (count + 1)) (sym p ∙ q))
 
-    pub element_cut : sp ≡ Cut → Broken 4 at ≡ element_of s left role at count
+    pub element_cut : sp ≡ Cut → broken refusal.Cut at ≡ element_of s left role at count
     element_cut q = by_span Cut q
 
-    pub element_ends : (n : ℕ) → sp ≡ Ends n → Next n (count + 1) ≡ element_of s left role at count
+    pub element_ends : (n : ℕ) → sp ≡ Ends n → next n (count + 1) ≡ element_of s left role at count
     element_ends n q = by_span (Ends n) q
 
     pub element_holds : (m n : ℕ) (k j : Bool) (r : Step) → sp ≡ Holds m n k → k ≡ j → r ≡ items_of s (left - 1) j n m (count + 1) → r ≡ element_of s left role at count

@@ -1,13 +1,13 @@
 -- What an entry of the table says, by ranges of entries; and of the table, what its entry says of a lead byte is what the lead byte says.
 -- Assumes nothing.
-use mathlib.Core.Path.{◌≡◌, refl, sym, ap, ◌∙◌}
+use mathlib.Core.Path.{◌≡◌, refl, ap, ◌∙◌}
 use mathlib.Core.{Bool.Bool, Bool.true, Bool.false, List.List}
 use Prim.Native.Nat.{ℕ, ◌+◌, ◌-◌, ◌/◌, ◌%◌, ◌≤◌, ◌<◌}
 use native.Mathlib.Omega.{arith}
 use lib.{Dec.T, Dec.eqb, ListN.get_or}
-use borrow.Author.Tests.{lt-ltb, le-ltb, eq-eqb, ne_eqb}
+use borrow.Author.Tests.{eq-eqb, ne_eqb}
 use Rattle.octets.specs.Choice.{either}
-use Rattle.octets.proofs.Ranges.{all, ranged}
+use Rattle.octets.proofs.Ranges.{all}
 use Rattle.element.proofs.Leads.{head_wide, head_more}
 use Rattle.element.specs.declared.Shape.{TheVariants.Never, TheVariants.Plain, TheVariants.Text, TheVariants.Array, TheVariants.Map}
 use Rattle.element.specs.declared.Head.{Head}

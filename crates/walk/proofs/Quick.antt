@@ -7,17 +7,18 @@ use Prim.Native.Nat.{ℕ, zero, suc, ◌+◌, ◌-◌, ◌%◌, ◌≤◌, ◌<�
 use native.Mathlib.Omega.{arith}
 use lib.Dec.{T, ltb, leb, eqb, eqb→eq}
 use lib.ListN.{length, get_or}
+use Rattle.std.specs.Prelude.{Option, Some, None, is_none}
 use mir.Syntax.{w8}
 use mir.Val.{Fits}
 use borrow.Author.Tests.{lt-ltb, le-ltb, le-leb, lt-leb, eq-eqb, ne_eqb, eqb-true, eqb-false, leb-true}
+use Rattle.refusal.specs.declared.Refusal.{Refusal}
 use Rattle.octets.specs.{Choice.either, Number.big_at}
 use Rattle.octets.proofs.Ranges.{ranged, true_false}
 use Rattle.element.specs.declared.Shape.{Shape, TheVariants.Never, TheVariants.Plain, TheVariants.Text, TheVariants.Array, TheVariants.Map}
 use Rattle.element.specs.declared.Head.{Head}
 use Rattle.element.specs.declared.Span.{Span, TheVariants.Ends, TheVariants.Holds}
-use Rattle.element.specs.declared.Step.TheVariants.{Next}
 use Rattle.element.specs.{Lead.head_of, Lead.lead_bytes, Lead.row_in, Code.Items.items_of}
-use Rattle.element.specs.Form.{Role, is_text, fault_of, body_of, span_by, span_of, spanned, element_of}
+use Rattle.element.specs.Form.{Role, next, is_text, fault_of, body_of, span_by, span_of, spanned, element_of}
 use Rattle.element.proofs.Leads.{head_more}
 use Rattle.element.proofs.Steps.{fault_none, none_fault, element_span, suits_value}
 use Rattle.walk.specs.Code.Short.{two_to, is_number, quick_by, quick_of, present, quick_at, quick_after, Bounded, After}
@@ -70,6 +71,10 @@ abbrev pub Opened : Bool → ℕ → Type 0
 Opened true r = r < 128
 Opened false r = 128 ≤ r
 
+is_nothing : (f : Option Refusal) → is_none f ≡ true → f ≡ None
+is_nothing None e = refl
+is_nothing (Some r) e = true_false (sym e)
+
 -- told with so many elements counted, or with more
 module _ (s : List ℕ) (left : ℕ) (role : Role) (at count more r : ℕ) (l : count ≤ more) (e : r ≡ quick_at s left role at more) (z : r ≡ 0 → ⊥) where
   abbrev head : Head
@@ -78,13 +83,13 @@ module _ (s : List ℕ) (left : ℕ) (role : Role) (at count more r : ℕ) (l : 
   abbrev lead : ℕ
   lead = quick_of (get_or s at 0)
 
-  parts : (eqb (fault_of s left role at more) 0 ≡ true) × (ltb lead 64 ≡ true → leb lead (length s - at) ≡ true) × (r ≡ lead)
+  parts : (is_none (fault_of s left role at more) ≡ true) × (ltb lead 64 ≡ true → leb lead (length s - at) ≡ true) × (r ≡ lead)
   unfolding quick_at
-  parts = chosen (eqb (fault_of s left role at more) 0) (ltb lead 64) (leb lead (length s - at)) lead r e z
+  parts = chosen (is_none (fault_of s left role at more)) (ltb lead 64) (leb lead (length s - at)) lead r e z
 
-  sound : fault_of s left role at count ≡ 0
+  sound : fault_of s left role at count ≡ None
   sound =
-      let f = fault_none s left role at more (eqb-true (fault_of s left role at more) 0 parts.0) in
+      let f = fault_none s left role at more (is_nothing (fault_of s left role at more) parts.0) in
       none_fault s left role at count (record { there = f.there; used = f.used; few = omega (arith, f.few); deep = f.deep; suits = f.suits })
 
   inside : r < 64 → r ≤ length s - at
@@ -98,7 +103,7 @@ module _ (s : List ℕ) (left : ℕ) (role : Role) (at count more r : ℕ) (l : 
       (told_span_lem s at (fault_none s left role at count sound).there head.shape head.wide head.more r parts.2 (head_more (get_or s at 0)) z inside)
 
   -- an element without parts: the walk goes on behind it
-  pub quick_short : r < 64 → element_of s left role at count ≡ Next (at + r) (count + 1)
+  pub quick_short : r < 64 → element_of s left role at count ≡ next (at + r) (count + 1)
   quick_short h = by_lead ∙ simp (lt-ltb r 64 h)
 
   -- a map or an array: the walk goes on with what it holds
@@ -109,9 +114,13 @@ module _ (s : List ℕ) (left : ℕ) (role : Role) (at count more r : ℕ) (l : 
 
 -- the answers of the code: 0 with its reason, or what the lead byte tells
 module _ (s : List ℕ) (left : ℕ) (role : Role) (at count : ℕ) where
-  faulty : (fault_of s left role at count ≡ 0 → ⊥) → 0 ≡ quick_at s left role at count
+  faulty : (fault_of s left role at count ≡ None → ⊥) → 0 ≡ quick_at s left role at count
   unfolding quick_at
-  faulty n = sym (simp (ne_eqb (fault_of s left role at count) 0 n))
+  faulty n = go (fault_of s left role at count) refl
+    where
+      go : (f : Option Refusal) → fault_of s left role at count ≡ f → 0 ≡ either (is_none f) (λ _. present (length s - at) (quick_of (get_or s at 0))) (λ _. 0)
+      go None e = absurd (n e)
+      go (Some r) e = refl
 
   pub quick_past : length s ≤ at → 0 ≡ quick_at s left role at count
   quick_past h = faulty (λ z. omega (arith, (fault_none s left role at count z).there))
@@ -125,7 +134,7 @@ module _ (s : List ℕ) (left : ℕ) (role : Role) (at count : ℕ) where
   -- 0 whether there is a fault or not
   either_way : 0 ≡ present (length s - at) (quick_of (get_or s at 0)) → 0 ≡ quick_at s left role at count
   unfolding quick_at
-  either_way e = go (eqb (fault_of s left role at count) 0)
+  either_way e = go (is_none (fault_of s left role at count))
     where
       go : (t : Bool) → 0 ≡ either t (λ _. present (length s - at) (quick_of (get_or s at 0))) (λ _. 0)
       go true = e
@@ -137,7 +146,7 @@ module _ (s : List ℕ) (left : ℕ) (role : Role) (at count : ℕ) where
   none_told : 0 ≡ quick_of (get_or s at 0) → 0 ≡ quick_at s left role at count
   none_told e = either_way (rw (← e) (sym (simp (le-leb 0 (length s - at) (omega arith)))))
 
-  module _ (n : ℕ) (f : fault_of s left role at count ≡ 0) (e : n ≡ quick_of (get_or s at 0)) where
+  module _ (n : ℕ) (f : fault_of s left role at count ≡ None) (e : n ≡ quick_of (get_or s at 0)) where
     fits : n < 64 → n ≤ length s - at → n ≡ quick_at s left role at count
     unfolding quick_at
     fits k l = rw (f, ← e) (sym (simp (lt-ltb n 64 k, le-leb n (length s - at) l)))
@@ -178,7 +187,7 @@ pub ruleset tolds = (told_within, told_text, told_number, told_opens, within_not
 
 -- a value or part
 module _ (s : List ℕ) (left at count : ℕ) (h : at < length s) (m : count < 1024) (d : left ≡ 0 → ⊥) where
-  sound_value : (get_or s at 0 ≡ 0xC1 → ⊥) → fault_of s left Role.value at count ≡ 0
+  sound_value : (get_or s at 0 ≡ 0xC1 → ⊥) → fault_of s left Role.value at count ≡ None
   sound_value u =
       none_fault s left Role.value at count
       (record { there = h; used = u; few = m; deep = omega arith; suits = suits_value (head_of (get_or s at 0)).shape })
@@ -187,7 +196,7 @@ module _ (s : List ℕ) (left at count : ℕ) (h : at < length s) (m : count < 1
   unfolding quick_at
   value_told r e = go (eqb (get_or s at 0) 0xC1) refl
     where
-      go : (t : Bool) → eqb (get_or s at 0) 0xC1 ≡ t → r ≡ either (eqb (fault_of s left Role.value at count) 0) (λ _. present (length s - at) (quick_of (get_or s at 0))) (λ _. 0)
+      go : (t : Bool) → eqb (get_or s at 0) 0xC1 ≡ t → r ≡ either (is_none (fault_of s left Role.value at count)) (λ _. present (length s - at) (quick_of (get_or s at 0))) (λ _. 0)
       go true t =
           let z : 0 ≡ quick_of (get_or s at 0) = size_never (get_or s at 0) (eqb-true (get_or s at 0) 0xC1 t) in
           let f : 0 ≡ present (length s - at) (quick_of (get_or s at 0)) = rw (← z) (sym (simp (le-leb 0 (length s - at) (omega arith)))) in

@@ -1,7 +1,7 @@
 -- The table of lead bytes has document 01's row of each: one computed test over its 256 entries. Assumes nothing.
 use mathlib.Core.Path.{◌≡◌, refl, sym, ap, ◌∙◌}
 use mathlib.Core.{Bool.Bool, Bool.◌&&◌, List.List, List.[], List.◌∷◌}
-use Prim.Native.Nat.{ℕ, zero, suc, ◌<◌}
+use Prim.Native.Nat.{ℕ, zero, suc}
 use native.Mathlib.Omega.{arith}
 use lib.{Dec.T, Dec.eqb, ListN.get_or}
 use Rattle.octets.proofs.Ranges.{all, ranged}

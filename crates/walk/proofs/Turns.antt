@@ -5,10 +5,12 @@ use mathlib.Core.{Bool.Bool, Bool.true, Bool.false, List.List}
 use Prim.Native.Nat.{ℕ, ◌+◌, ◌-◌, ◌*◌, ◌^◌, ◌≤◌, ◌<◌}
 use native.Mathlib.Omega.{arith}
 use lib.ListN.{length}
+use Rattle.std.specs.Prelude.{Ok, Err, IsErr, IsErrAnd}
 use mir.Syntax.{w64}
 use mir.Val.{Fits}
-use Rattle.element.specs.declared.Step.{Step, TheVariants.Next, TheVariants.Broken}
-use Rattle.element.specs.Form.{Role, times, item_by, element_of}
+use Rattle.element.specs.Form.{Role, Step, next, times, item_by, element_of}
+use Rattle.refusal.specs.declared.Broken.{Broken}
+use Rattle.element.specs.declared.Next.{Next}
 use Rattle.element.specs.Code.Items.{items_of}
 use Rattle.element.proofs.Steps.{times_more}
 use Rattle.walk.specs.Code.Short.{quick_at, quick_after, is_short, Bounded, After, Opens}
@@ -18,10 +20,10 @@ use Rattle.walk.proofs.Quick.{base, Opened, quick_short, quick_holds, after_is}
 
 -- a value or part that the lead byte alone tells of
 module _ (s : List ℕ) (left at count z : ℕ) where
-  short_value : z ≡ quick_at s left Role.value at count → is_short z ≡ true → element_of s left Role.value at count ≡ Next (at + z) (count + 1)
+  short_value : z ≡ quick_at s left Role.value at count → is_short z ≡ true → element_of s left Role.value at count ≡ next (at + z) (count + 1)
   short_value e u = quick_short s left Role.value at count count z (omega arith) e (is_some z u) (is_small z u)
 
-  pub value_quick : z ≡ quick_at s left Role.value at count → is_short z ≡ true → Next (at + z) (count + 1) ≡ element_of s left Role.value at count
+  pub value_quick : z ≡ quick_at s left Role.value at count → is_short z ≡ true → next (at + z) (count + 1) ≡ element_of s left Role.value at count
   value_quick e u = sym (short_value e u)
 
   pub value_holds : Opens s left at count z → (z ≡ 0 → ⊥) → (r : Step) (keyed : Bool) (w : ℕ)
@@ -36,19 +38,19 @@ module _ (s : List ℕ) (left at count z : ℕ) where
     pub value_counts : (z ≡ 0 → ⊥) → Fits w64 (count + 1)
     value_counts n = record { fits = omega (arith, k.few) }
 
-pub key_quick : (s : List ℕ) (left at count y : ℕ) → y ≡ quick_at s left Role.key at (count + 1) → (y ≡ 0 → ⊥) → y ≤ 32 → Next (at + y) (count + 1) ≡ element_of s left Role.key at count
+pub key_quick : (s : List ℕ) (left at count y : ℕ) → y ≡ quick_at s left Role.key at (count + 1) → (y ≡ 0 → ⊥) → y ≤ 32 → next (at + y) (count + 1) ≡ element_of s left Role.key at count
 key_quick s left at count y e n h = sym (quick_short s left Role.key at count (count + 1) y (omega arith) e n (omega arith))
 
 -- a key and its value
 module _ (s : List ℕ) (left at count : ℕ) where
   module _ (r : Step) (e : r ≡ element_of s left Role.key at count) where
-    pub pair_next : (q : Step) (a c : ℕ) → r ≡ Next a c → q ≡ element_of s left Role.value a c → q ≡ pair_of s left at count
+    pub pair_next : (q : Step) (k : Next) → r ≡ Ok k → q ≡ element_of s left Role.value k.at k.count → q ≡ pair_of s left at count
     unfolding pair_of
-    pair_next q a c n f = rw (← e, n) f
+    pair_next q k n f = rw (← e, n) f
 
-    pub pair_broken : (x y : ℕ) → r ≡ Broken x y → Broken x y ≡ pair_of s left at count
+    pub pair_broken : (b : Broken) (q : Step) → r ≡ Err b → q ≡ Err b → q ≡ pair_of s left at count
     unfolding pair_of
-    pair_broken x y n = rw (← e, n)
+    pair_broken b q n f = f ∙ rw (← e, n)
 
   -- the key that the lead byte tells of, then the value
   module _ (y z : ℕ) (k : y ≡ quick_at s left Role.key at (count + 1)) (m : y ≤ 32) (e : z ≡ quick_after s left at count y)
@@ -58,7 +60,7 @@ module _ (s : List ℕ) (left at count : ℕ) where
 
     after_value : (q : Step) → q ≡ element_of s left Role.value (at + y) (count + 1) → q ≡ pair_of s left at count
     after_value q f =
-        pair_next (element_of s left Role.key at count) refl q (at + y) (count + 1)
+        pair_next (element_of s left Role.key at count) refl q (record { at = at + y; count = count + 1 })
         (quick_short s left Role.key at count (count + 1) y (omega arith) k some_key (omega arith)) f
 
     value_is : z ≡ quick_at s left Role.value (at + y) (count + 1)
@@ -67,8 +69,8 @@ module _ (s : List ℕ) (left at count : ℕ) where
     two : count + 2 ≡ count + 1 + 1
     two = omega arith
 
-    pair_short : is_short z ≡ true → Next (at + y + z) (count + 2) ≡ pair_of s left at count
-    pair_short u = after_value (Next (at + y + z) (count + 2)) (ap (λ (c : ℕ). Next (at + y + z) c) two ∙ sym (short_value s left (at + y) (count + 1) z value_is u))
+    pub pair_short : is_short z ≡ true → next (at + y + z) (count + 2) ≡ pair_of s left at count
+    pair_short u = after_value (next (at + y + z) (count + 2)) (ap (λ (c : ℕ). next (at + y + z) c) two ∙ sym (short_value s left (at + y) (count + 1) z value_is u))
 
     pub pair_holds : is_short z ≡ false → (r : Step) (keyed : Bool) (w : ℕ) → r ≡ items_of s (left - 1) keyed w (at + y + 1) (count + 2) → w ≡ z - base keyed → Opened keyed z
         → r ≡ pair_of s left at count
@@ -92,10 +94,10 @@ module _ (s : List ℕ) (left at count : ℕ) where
     pub pair_level : 1 ≤ left
     pair_level = omega (arith, a.bounds.deep)
 
-    pub pair_sinks : (t : ℕ) → 4 * left + 2 ≡ t → 4 * (left - 1) + 3 < t
+    pub pair_sinks : (t : ℕ) → 5 * left + 2 ≡ t → 5 * (left - 1) + 4 < t
     pair_sinks t m = omega (arith, a.bounds.deep)
 
-pub ruleset items = (value_quick, key_quick, value_holds, value_behind, value_counts, pair_next, pair_broken, pair_holds, pair_inside, pair_into, pair_behind, pair_counts, pair_level, pair_sinks, tested, is_some, is_long)
+pub ruleset items = (value_quick, key_quick, value_holds, value_behind, value_counts, pair_next, pair_broken, pair_short, pair_holds, pair_inside, pair_into, pair_behind, pair_counts, pair_level, pair_sinks, tested, is_some, is_long)
 
 -- one part, or one pair
 abbrev item : List ℕ → ℕ → Bool → ℕ → ℕ → Step
@@ -107,31 +109,40 @@ unfolding pair_of
 item_is s left false at count = refl
 item_is s left true at count = refl
 
+-- what `?` hands on is the break that it was given
+pub err_again : (q : Step) (b : Broken) → IsErr q × IsErrAnd q (λ x. x ≡ b) → {w : Step} → Err b ≡ w → q ≡ w
+err_again (Ok n) b p e = absurd p.1
+err_again (Err x) b p e = ap (λ (y : Broken). Err y) p.1 ∙ e
+
 -- a loop over n items: the answer from here is the answer w
 module _ (s : List ℕ) (left : ℕ) (keyed : Bool) (w : Step) (n at count : ℕ) (i : w ≡ items_of s left keyed n at count) where
-  pub items_done : n ≤ 0 → Next at count ≡ w
+  pub items_done : n ≤ 0 → next at count ≡ w
   unfolding items_of times
   items_done h =
       let z : n ≡ 0 = omega arith in
       sym (i ∙ rw z)
 
   module _ (h : 0 < n) (r : Step) (e : r ≡ item s left keyed at count) where
-    pub items_next : (a c : ℕ) → r ≡ Next a c → w ≡ items_of s left keyed (n - 1) a c
+    pub items_next : (a c : ℕ) → r ≡ next a c → w ≡ items_of s left keyed (n - 1) a c
     unfolding items_of
     items_next a c q = i ∙ rw times_more (rw (item_is s left keyed at count, ← e, q))
 
-    pub items_broken : (x y : ℕ) → r ≡ Broken x y → Broken x y ≡ w
+    pub items_broken : (b : Broken) → r ≡ Err b → Err b ≡ w
     unfolding items_of
-    items_broken x y q = sym (i ∙ rw times_more (rw (item_is s left keyed at count, ← e, q)))
+    items_broken b q = sym (i ∙ rw times_more (rw (item_is s left keyed at count, ← e, q)))
 
-module _ (s : List ℕ) (left : ℕ) (w : Step) (n at count : ℕ) (h : 0 < n) where
-  pub values_short : w ≡ items_of s left false n at count → (z : ℕ) → z ≡ quick_at s left Role.value at count → is_short z ≡ true → w ≡ items_of s left false (n - 1) (at + z) (count + 1)
-  values_short i z e u =
-      items_next s left false w n at count i h (element_of s left Role.value at count) refl (at + z) (count + 1) (short_value s left at count z e u)
+-- the same at the turn i of n
+module _ (s : List ℕ) (left : ℕ) (keyed : Bool) (w : Step) (n i at count : ℕ) (e : w ≡ items_of s left keyed (n - i) at count) where
+  pub turns_done : n ≤ i → next at count ≡ w
+  turns_done h = items_done s left keyed w (n - i) at count e (omega arith)
 
-  pub pairs_short : w ≡ items_of s left true n at count → (y z : ℕ) → y ≡ quick_at s left Role.key at (count + 1) → y ≤ 32
-      → z ≡ quick_after s left at count y → After (length s) left at count y z → is_short z ≡ true → w ≡ items_of s left true (n - 1) (at + y + z) (count + 2)
-  pairs_short i y z k m e a u =
-      items_next s left true w n at count i h (pair_of s left at count) refl (at + y + z) (count + 2) (sym (pair_short s left at count y z k m e a (is_some z u) u))
+  module _ (h : i < n) (r : Step) (f : r ≡ item s left keyed at count) where
+    pub turns_next : (k : Next) → r ≡ Ok k → w ≡ items_of s left keyed (n - (i + 1)) k.at k.count
+    turns_next k q =
+        let m : n - (i + 1) ≡ n - i - 1 = omega arith in
+        items_next s left keyed w (n - i) at count e (omega arith) r f k.at k.count q ∙ rw m
 
-pub ruleset turns = (items_done, items_next, items_broken, values_short, pairs_short, tested)
+    pub turns_broken : (b : Broken) → r ≡ Err b → Err b ≡ w
+    turns_broken b g = items_broken s left keyed w (n - i) at count e (omega arith) r f b g
+
+pub ruleset turns = (turns_done, tested)

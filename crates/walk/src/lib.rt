@@ -13,8 +13,8 @@ pub mod table;
 ghost use Rattle.std.specs.Prelude.{◌≡◌, ◌<◌, length};
 ghost use Rattle.element.specs.Form.{Role, element_of, walk_of};
 
-use element::{Step, Walked};
-use octets::refusals;
+use element::Next;
+use refusal::{Broken, Refusal};
 
 // Document 01: at most so many elements, at most so many levels.
 pub const MOST_ELEMENTS: usize = 1024;
@@ -23,48 +23,48 @@ pub const MOST_LEVELS: usize = 8;
 
 const BELOW_OUTER: usize = 7;
 
-// Whole with its elements counted, or document 01's number 3 to 10 and the place.
-pub fn walk(s: &[u8]) -> Walked
+// The count of the elements of a whole payload, or a refusal and the place of the first break.
+#[tactic(auto, using(crate::proofs::Outermost::walks))]
+pub fn walk(s: &[u8]) -> Result<usize, Broken>
     ensures { result ≡ walk_of s.now }
 {
-    let len = s.len();
-    if !octets::is_size(len) {
-        return Walked::Refused(refusals::SIZE, 0);
+    if !octets::is_size(s.len()) {
+        return Err(Broken {
+            refusal: Refusal::Size,
+            place: 0,
+        });
     }
-    match outer(s) {
-        Step::Next { at, count } => {
-            if at < len {
-                Walked::Refused(refusals::LEFT_OVER, at)
-            } else {
-                Walked::Whole(count)
-            }
-        }
-        Step::Broken { number, place } => Walked::Refused(number, place),
+    let Next { at, count } = outer(s)?;
+    if at < s.len() {
+        return Err(Broken {
+            refusal: Refusal::LeftOver,
+            place: at,
+        });
     }
+    Ok(count)
 }
 
 // The outer element: a map, with eight levels.
-fn outer(s: &[u8]) -> Step
+#[tactic(auto, using(crate::proofs::Outermost::outers))]
+fn outer(s: &[u8]) -> Result<Next, Broken>
     requires { 0 < length s.now }
     ensures { result ≡ element_of s.now 8 Role.outer 0 0 }
 {
     let b = s[0];
-    if 0x80 <= b {
-        if b < 0x90 {
-            return steps::pairs(s, 1, 1, BELOW_OUTER, (b - 0x80) as usize);
-        }
+    if matches!(b, 0x80..=0x8F) {
+        return steps::pairs(s, 1, 1, BELOW_OUTER, usize::from(b - 0x80));
     }
     if b == 0xC1 {
-        return Step::Broken {
-            number: refusals::NEVER_USED,
+        return Err(Broken {
+            refusal: Refusal::NeverUsed,
             place: 0,
-        };
+        });
     }
     if lead::is_map(b) {
         return steps::element(s, 0, 0, MOST_LEVELS, false);
     }
-    Step::Broken {
-        number: refusals::OUTER_NOT_MAP,
+    Err(Broken {
+        refusal: Refusal::OuterNotMap,
         place: 0,
-    }
+    })
 }

@@ -10,30 +10,27 @@ ghost use Rattle.walk.specs.Code.Turn.{role_of, pair_of};
 use crate::lead::{head_of, is_text};
 use crate::run::octet_run;
 use crate::{MOST_ELEMENTS, short};
-use element::{Shape, Span, Step};
-use octets::refusals;
+use element::{Head, Next, Shape, Span};
+use refusal::{Broken, Refusal};
 
 // The element at a place, after `count` elements, with `left` levels: where the walk goes on, or its break.
-#[cycle(any_pair_element_held_pair_pairs_values)]
-pub fn element(s: &[u8], at: usize, count: usize, left: usize, key: bool) -> Step
+#[cycle(any_pair_element_held_held_pair_pair_pairs_value_values)]
+#[tactic(auto, using(crate::proofs::Elements::elements, crate::proofs::Turns::items, crate::proofs::Turns::turns))]
+pub fn element(s: &[u8], at: usize, count: usize, left: usize, key: bool) -> Result<Next, Broken>
     ensures { result ≡ element_of s.now left (role_of key) at count }
 {
-    let f = fault(s, at, count, left, key);
-    if f != 0 {
-        return Step::Broken {
-            number: f,
-            place: at,
-        };
+    if let Some(refusal) = fault(s, at, count, left, key) {
+        return Err(Broken { refusal, place: at });
     }
     match span_at(s, at) {
-        Span::Cut => Step::Broken {
-            number: refusals::CUT,
+        Span::Cut => Err(Broken {
+            refusal: Refusal::Cut,
             place: at,
-        },
-        Span::Ends(next) => Step::Next {
-            at: next,
+        }),
+        Span::Ends(behind) => Ok(Next {
+            at: behind,
             count: count + 1,
-        },
+        }),
         Span::Holds { from, parts, keyed } => {
             if keyed {
                 pairs(s, from, count + 1, left - 1, parts)
@@ -45,98 +42,94 @@ pub fn element(s: &[u8], at: usize, count: usize, left: usize, key: bool) -> Ste
 }
 
 // The key at a place, without a call where its lead byte tells of it.
-pub fn key(s: &[u8], at: usize, count: usize, left: usize) -> Step
+#[tactic(auto, using(crate::proofs::Turns::items))]
+pub fn key(s: &[u8], at: usize, count: usize, left: usize) -> Result<Next, Broken>
     ensures { result ≡ element_of s.now left Role.key at count }
 {
     let y = short::quick_key(s, at, count, left);
     if y == 0 {
         return element(s, at, count, left, true);
     }
-    Step::Next {
+    Ok(Next {
         at: at + y,
         count: count + 1,
-    }
+    })
 }
 
 // The value or part at a place, without a call where its lead byte tells of it.
-pub fn value(s: &[u8], at: usize, count: usize, left: usize) -> Step
+#[cycle(any_pair_element_held_held_pair_pair_pairs_value_values)]
+#[tactic(auto, using(crate::proofs::Elements::elements, crate::proofs::Turns::items, crate::proofs::Turns::turns))]
+pub fn value(s: &[u8], at: usize, count: usize, left: usize) -> Result<Next, Broken>
     ensures { result ≡ element_of s.now left Role.value at count }
 {
     let z = short::quick_value(s, at, count, left);
     if short::is_short(z) {
-        return Step::Next {
+        return Ok(Next {
             at: at + z,
             count: count + 1,
-        };
+        });
     }
     held(s, at, count, left, z)
 }
 
 // The n parts of an array from a place on. Most arrays hold bytes: their parts go first, in a loop of their own.
-#[cycle(any_pair_element_held_pair_pairs_values)]
-pub fn values(s: &[u8], at: usize, count: usize, left: usize, n: usize) -> Step
+#[cycle(any_pair_element_held_held_pair_pair_pairs_value_values)]
+#[tactic(auto, using(crate::proofs::Elements::elements, crate::proofs::Turns::items, crate::proofs::Turns::turns))]
+pub fn values(s: &[u8], at: usize, count: usize, left: usize, n: usize) -> Result<Next, Broken>
     ensures { result ≡ items_of s.now left false n at count }
 {
     let run = octet_run(s, at, count, left, n);
-    let mut p = run.at;
-    let mut c = count + run.parts;
-    let mut k = n - run.parts;
-    while 0 < k {
-        let z = short::quick_value(s, p, c, left);
-        if short::is_short(z) {
-            p += z;
-            c += 1;
-            k -= 1;
-        } else {
-            match held(s, p, c, left, z) {
-                Step::Next { at: q, count: d } => {
-                    p = q;
-                    c = d;
-                    k -= 1;
-                }
-                Step::Broken { number, place } => {
-                    return Step::Broken { number, place };
-                }
-            }
-        }
+    let mut next = Next {
+        at: run.at,
+        count: count + run.parts,
+    };
+    for _ in run.parts..n {
+        next = value(s, next.at, next.count, left)?;
     }
-    Step::Next { at: p, count: c }
+    Ok(next)
 }
 
 // The n pairs of a map from a place on.
-#[cycle(any_pair_element_held_pair_pairs_values)]
-pub fn pairs(s: &[u8], at: usize, count: usize, left: usize, n: usize) -> Step
+#[cycle(any_pair_element_held_held_pair_pair_pairs_value_values)]
+#[tactic(auto, using(crate::proofs::Elements::elements, crate::proofs::Turns::items, crate::proofs::Turns::turns))]
+pub fn pairs(s: &[u8], at: usize, count: usize, left: usize, n: usize) -> Result<Next, Broken>
     ensures { result ≡ items_of s.now left true n at count }
 {
-    let mut p = at;
-    let mut c = count;
-    let mut k = n;
-    while 0 < k {
-        let y = short::quick_key(s, p, c, left);
-        let z = quick_after(s, p, c, left, y);
-        if short::is_short(z) {
-            p = p + y + z;
-            c += 2;
-            k -= 1;
-        } else {
-            match pair(s, p, c, left, y, z) {
-                Step::Next { at: q, count: d } => {
-                    p = q;
-                    c = d;
-                    k -= 1;
-                }
-                Step::Broken { number, place } => {
-                    return Step::Broken { number, place };
-                }
-            }
-        }
+    let mut next = Next { at, count };
+    for _ in 0..n {
+        next = pair(s, next.at, next.count, left)?;
     }
-    Step::Next { at: p, count: c }
+    Ok(next)
+}
+
+// A key and its value, without a call where their lead bytes tell of both.
+#[cycle(any_pair_element_held_held_pair_pair_pairs_value_values)]
+#[tactic(auto, using(crate::proofs::Elements::elements, crate::proofs::Turns::items, crate::proofs::Turns::turns))]
+fn pair(s: &[u8], at: usize, count: usize, left: usize) -> Result<Next, Broken>
+    ensures { result ≡ pair_of s.now left at count }
+{
+    let y = short::quick_key(s, at, count, left);
+    let z = quick_after(s, at, count, left, y);
+    if short::is_short(z) {
+        return Ok(Next {
+            at: at + y + z,
+            count: count + 2,
+        });
+    }
+    held_pair(s, at, count, left, y, z)
 }
 
 // A key and its value, where the value is not short.
-#[cycle(any_pair_element_held_pair_pairs_values)]
-fn pair(s: &[u8], at: usize, count: usize, left: usize, y: usize, z: usize) -> Step
+#[cycle(any_pair_element_held_held_pair_pair_pairs_value_values)]
+#[tactic(auto, using(crate::proofs::Elements::elements, crate::proofs::Turns::items, crate::proofs::Turns::turns))]
+fn held_pair(
+    s: &[u8],
+    at: usize,
+    count: usize,
+    left: usize,
+    y: usize,
+    z: usize,
+) -> Result<Next, Broken>
     requires { QuickPair s.now left at count y z }
     ensures { result ≡ pair_of s.now left at count }
 {
@@ -150,19 +143,19 @@ fn pair(s: &[u8], at: usize, count: usize, left: usize, y: usize, z: usize) -> S
 }
 
 // A key and its value, each by the element reader.
-#[cycle(any_pair_element_held_pair_pairs_values)]
-fn any_pair(s: &[u8], at: usize, count: usize, left: usize) -> Step
+#[cycle(any_pair_element_held_held_pair_pair_pairs_value_values)]
+#[tactic(auto, using(crate::proofs::Elements::elements, crate::proofs::Turns::items, crate::proofs::Turns::turns))]
+fn any_pair(s: &[u8], at: usize, count: usize, left: usize) -> Result<Next, Broken>
     ensures { result ≡ pair_of s.now left at count }
 {
-    match element(s, at, count, left, true) {
-        Step::Next { at: p, count: c } => element(s, p, c, left, false),
-        Step::Broken { number, place } => Step::Broken { number, place },
-    }
+    let key = element(s, at, count, left, true)?;
+    element(s, key.at, key.count, left, false)
 }
 
 // A value or part that is not short.
-#[cycle(any_pair_element_held_pair_pairs_values)]
-fn held(s: &[u8], at: usize, count: usize, left: usize, z: usize) -> Step
+#[cycle(any_pair_element_held_held_pair_pair_pairs_value_values)]
+#[tactic(auto, using(crate::proofs::Elements::elements, crate::proofs::Turns::items, crate::proofs::Turns::turns))]
+fn held(s: &[u8], at: usize, count: usize, left: usize, z: usize) -> Result<Next, Broken>
     requires { Opens s.now left at count z }
     ensures { result ≡ element_of s.now left Role.value at count }
 {
@@ -176,6 +169,7 @@ fn held(s: &[u8], at: usize, count: usize, left: usize, z: usize) -> Step
 }
 
 // The value behind a key of y bytes; 0 where there is no such key.
+#[tactic(auto, using(crate::proofs::Quick::afters))]
 fn quick_after(s: &[u8], at: usize, count: usize, left: usize, y: usize) -> usize
     requires { (Bounded (length s.now) left at (count + 1) y) × (y ≤ 32) }
     ensures is { result ≡ quick_after s.now left at count y }
@@ -187,32 +181,28 @@ fn quick_after(s: &[u8], at: usize, count: usize, left: usize, y: usize) -> usiz
     short::quick_value(s, at + y, count + 1, left)
 }
 
-// The first test that the element fails before its length is read, or 0.
-fn fault(s: &[u8], at: usize, count: usize, left: usize, key: bool) -> u8
+// The first test that the element fails before its length is read, if it fails one.
+#[tactic(auto, using(crate::proofs::Elements::faults))]
+fn fault(s: &[u8], at: usize, count: usize, left: usize, key: bool) -> Option<Refusal>
     ensures { result ≡ fault_of s.now left (role_of key) at count }
 {
     if s.len() <= at {
-        return refusals::CUT;
+        return Some(Refusal::Cut);
     }
     let b = s[at];
     if b == 0xC1 {
-        return refusals::NEVER_USED;
+        return Some(Refusal::NeverUsed);
     }
     if MOST_ELEMENTS <= count {
-        return refusals::TOO_MANY_ELEMENTS;
+        return Some(Refusal::TooManyElements);
     }
     if left == 0 {
-        return refusals::TOO_DEEP;
+        return Some(Refusal::TooDeep);
     }
-    if key {
-        if is_text(b) {
-            0
-        } else {
-            refusals::KEY_NOT_TEXT
-        }
-    } else {
-        0
+    if key && !is_text(b) {
+        return Some(Refusal::KeyNotText);
     }
+    None
 }
 
 // Where a body of n bytes ends, in a payload of len bytes.
@@ -240,6 +230,7 @@ fn span_at(s: &[u8], at: usize) -> Span
 }
 
 // The same of an array with two bytes of length.
+#[tactic(auto, using(crate::proofs::Elements::longs))]
 fn long_array(s: &[u8], at: usize) -> Span
     requires { (at < length s.now) × (get_or s.now at 0 ≡ 0xDC) }
     ensures { result ≡ span_of s.now at }
@@ -259,17 +250,15 @@ fn any_span(s: &[u8], at: usize) -> Span
     requires { at < length s.now }
     ensures { result ≡ span_of s.now at }
 {
-    let b = s[at];
-    let h = head_of(b);
-    let wide = h.wide;
-    let shape = h.shape;
+    let Head { shape, wide, more } = head_of(s[at]);
     if s.len() - at - 1 < wide {
         return Span::Cut;
     }
     let from = at + 1 + wide;
-    let n = h.more + (octets::big_at(s, at + 1, wide) as usize);
+    let n = more + (octets::big_at(s, at + 1, wide) as usize);
     match shape {
         Shape::Never => Span::Cut,
+        // Each by itself: at an arm of two kinds a proof has neither's equation.
         Shape::Plain => body(s.len(), from, n),
         Shape::Text => body(s.len(), from, n),
         Shape::Array => Span::Holds {

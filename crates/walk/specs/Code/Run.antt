@@ -2,16 +2,15 @@
 use mathlib.Core.{Path.◌≡◌, Bool.Bool, Bool.false, Bool.◌&&◌, List.List}
 use Rattle.std.specs.Prelude.{ℕ, ◌+◌, ◌-◌, ◌*◌, ◌≤◌, ◌<◌, leb}
 use Rattle.octets.specs.Code.Low.{are_low}
-use Rattle.element.specs.declared.Step.TheVariants.{Next}
-use Rattle.element.specs.{Form.Role, Form.element_of, Code.Items.items_of}
+use Rattle.element.specs.{Form.Role, Form.next, Form.element_of, Code.Items.items_of}
 
 -- eight parts more of n are left, and are bytes below 0x80
 unfoldable pub eight_more : List ℕ → ℕ → ℕ → Bool
 eight_more s at n = leb 8 n && are_low s at 8
 
--- next is the place behind the part at a place, wherever that may be counted and has a level; or it is the place itself
-pub record Follows (s : List ℕ) (at next : ℕ) : Type 0 where
-  pub is : (left count : ℕ) → count < 1024 → (left ≡ 0 → ⊥) → (next ≡ at → ⊥) → element_of s left Role.value at count ≡ Next next (count + 1)
+-- the place behind the part at a place, wherever that may be counted and has a level; or it is the place itself
+pub record Follows (s : List ℕ) (at behind : ℕ) : Type 0 where
+  pub is : (left count : ℕ) → count < 1024 → (left ≡ 0 → ⊥) → (behind ≡ at → ⊥) → element_of s left Role.value at count ≡ next behind (count + 1)
 
 -- of n parts the first are passed: wherever they may be counted and have a level, the walk's answer from behind them is its answer
 pub record Passes (s : List ℕ) (n at next parts : ℕ) : Type 0 where

@@ -1,6 +1,6 @@
 -- What the loops do by a lead byte alone, without the element reader.
 use mathlib.Core.{Path.◌≡◌, Bool.Bool, Bool.false, List.List}
-use Rattle.std.specs.Prelude.{ℕ, zero, suc, ◌+◌, ◌-◌, ◌*◌, ◌^◌, ◌≤◌, min}
+use Rattle.std.specs.Prelude.{ℕ, zero, suc, ◌+◌, ◌-◌, ◌*◌, ◌^◌, ◌≤◌, min, is_none}
 use lib.{Dec.leb, Dec.ltb, Dec.eqb, ListN.length, ListN.get_or}
 use Rattle.octets.specs.Choice.{either}
 use Rattle.element.specs.declared.Shape.{Shape, TheVariants.Never, TheVariants.Plain, TheVariants.Text, TheVariants.Array, TheVariants.Map}
@@ -44,7 +44,7 @@ present len q = either (ltb q 64) (λ _. either (leb q len) (λ _. q) (λ _. 0))
 -- the same of the element at a place, where it breaks no rule; else 0
 unfoldable pub quick_at : List ℕ → ℕ → Role → ℕ → ℕ → ℕ
 quick_at s left role at count =
-    either (eqb (fault_of s left role at count) 0) (λ _. present (length s - at) (quick_of (get_or s at 0))) (λ _. 0)
+    either (is_none (fault_of s left role at count)) (λ _. present (length s - at) (quick_of (get_or s at 0))) (λ _. 0)
 
 -- bounds that a caller's sums need: r is at most 160, an element is there, it is counted, and it has a level
 pub record Bounded (len left at count r : ℕ) : Type 0 where

@@ -1,8 +1,7 @@
 -- The table of lead bytes: what its entries say, in the words of document 01's list.
 use mathlib.Core.{Path.◌≡◌, List.List, List.[], List.◌∷◌}
-use Rattle.std.specs.Prelude.{ℕ, ◌+◌, ◌%◌, ◌<◌}
-use lib.{Dec.ltb, ListN.get_or}
-use Rattle.octets.specs.Choice.{either}
+use Rattle.std.specs.Prelude.{ℕ, ◌+◌, ◌<◌}
+use lib.{ListN.get_or}
 use Rattle.element.specs.declared.Head.{Head}
 use Rattle.element.specs.Lead.{Class, Range, fixed, length_sized, lead_bytes, row_in, head_by}
 

@@ -1,8 +1,7 @@
 -- What the functions of the walk take and answer, in the words of the definitions.
 use Rattle.std.specs.Prelude.{ℕ}
 use mathlib.Core.{Bool.Bool, Bool.true, Bool.false, List.List}
-use Rattle.element.specs.declared.Step.{Step}
-use Rattle.element.specs.Form.{Role, element_of, item_by}
+use Rattle.element.specs.Form.{Role, Step, element_of, item_by}
 
 -- inside a payload an element is a key, or a value or part
 abbrev pub role_of : Bool → Role
