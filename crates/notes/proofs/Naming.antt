@@ -13,7 +13,7 @@ use Rattle.element.specs.declared.Shape.TheVariants.{Text}
 use Rattle.element.specs.declared.Head.{Head}
 use Rattle.element.specs.declared.Span.{Span, TheVariants.Cut, TheVariants.Ends, TheVariants.Holds}
 use Rattle.element.specs.Lead.{Class, class_of, shape_of, row_in, lead_bytes, head_of}
-use Rattle.element.specs.{Form.is_text, Form.body_of, Form.span_of, Meaning.leaf_of, Meaning.Element.text}
+use Rattle.element.specs.{Form.is_text, Form.body_of, Form.span_of, Meaning.leaf_of}
 use Rattle.element.specs.{Code.At.body_from, Code.At.leaf_to, Code.At.leaf_at}
 use Rattle.names.specs.Names.{command_of}
 use Rattle.field.specs.{Judge.text_of, Code.At.shallow_at}

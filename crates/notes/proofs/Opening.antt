@@ -8,6 +8,8 @@ use lib.{Dec.lit<, Dec.leb, Dec.ltb, ListN.length, ListN.get_or}
 use mir.Syntax.{w64}
 use mir.Val.{Fits}
 use borrow.Author.Tests.{le-leb, lt-leb, eq-eqb, ne_eqb, ltb-true, ltb-false, not-true, not-false}
+use Rattle.refusal.specs.declared.Refusal.TheVariants.{NeverUsed, OuterNotMap, Size}
+use Rattle.refusal.specs.declared.Refusal.TheVariants as refusal
 use Rattle.octets.specs.{Choice.either, Number.big_at, Number.is_there, Number.if_there, Size.is_size}
 use Rattle.octets.proofs.{Ranges.true_false, Widths.within, Sizes.sized_some, Sizes.sized_most}
 use Rattle.element.specs.declared.Shape.{Shape, TheVariants.Never, TheVariants.Plain, TheVariants.Text, TheVariants.Array, TheVariants.Map}
@@ -69,7 +71,7 @@ no_places s e = go (leb (0 + 1 + (head_of (get_or s 0 0)).wide) (length s))
 
 module _ (s : List ℕ) where
   module _ (b : Bool) (e : b ≡ is_size (length s)) where
-    pub noted_missized : (r : Noted) → r ≡ broken_at 3 → not b ≡ true → r ≡ noted_of s
+    pub noted_missized : (r : Noted) → r ≡ broken_at Size → not b ≡ true → r ≡ noted_of s
     unfolding noted_of
     noted_missized r q f = q ∙ sym (simp (← e, not-true b f))
 
@@ -85,19 +87,19 @@ module _ (s : List ℕ) where
     there : 0 < length s
     there = sized_some (length s) z
 
-    pub opened_never : (r : Noted) → r ≡ broken_at 5 → get_or s 0 0 ≡ 0xC1 → r ≡ opened_of s
+    pub opened_never : (r : Noted) → r ≡ broken_at NeverUsed → get_or s 0 0 ≡ 0xC1 → r ≡ opened_of s
     unfolding fault_of
     opened_never r e u =
-        e ∙ both s (broken_at 5)
-        (element_fault s 8 Role.outer 0 0 5 (sym (simp (lt-leb (length s) 0 there, eq-eqb (get_or s 0 0) 0xC1 u))) (λ z. omega arith))
+        e ∙ both s (broken_at NeverUsed)
+        (element_fault s 8 Role.outer 0 0 NeverUsed (sym (simp (lt-leb (length s) 0 there, eq-eqb (get_or s 0 0) 0xC1 u))))
         (no_places s (ap is_map (never_used (get_or s 0 0) u)))
 
     module _ (n : get_or s 0 0 ≡ 0xC1 → ⊥) (m : Bool) (f : m ≡ is_map (head_of (get_or s 0 0)).shape) where
-      pub opened_other : (r : Noted) → r ≡ broken_at 9 → m ≡ false → r ≡ opened_of s
+      pub opened_other : (r : Noted) → r ≡ broken_at OuterNotMap → m ≡ false → r ≡ opened_of s
       unfolding fault_of
       opened_other r e k =
-          e ∙ both s (broken_at 9)
-          (element_fault s 8 Role.outer 0 0 9 (sym (simp (lt-leb (length s) 0 there, ne_eqb (get_or s 0 0) 0xC1 n, ← f, k))) (λ z. omega arith))
+          e ∙ both s (broken_at OuterNotMap)
+          (element_fault s 8 Role.outer 0 0 OuterNotMap (sym (simp (lt-leb (length s) 0 there, ne_eqb (get_or s 0 0) 0xC1 n, ← f, k))))
           (no_places s (sym f ∙ k))
 
       pub begins_map : m ≡ true → BeginsMap s
@@ -116,9 +118,9 @@ module _ (s : List ℕ) (b : BeginsMap s) (h : Head) (y : Announces (get_or s 0 
       (none_fault s 8 Role.outer 0 0 (record { there = some; used = b.used; few = lit< tt; deep = lit< tt; suits = suits_outer b.map }))
       ∙ ap (λ (z : Span). spanned (element_of s 7) z 0 1) e
 
-  pub map_cut : (r : Noted) → r ≡ broken_at 4 → length s - 1 < h.wide → r ≡ opened_of s
+  pub map_cut : (r : Noted) → r ≡ broken_at refusal.Cut → length s - 1 < h.wide → r ≡ opened_of s
   unfolding span_of places_of
-  map_cut r e l = e ∙ both s (broken_at 4) (sym (opens Cut cut)) (sym (ap (places_by s) cut))
+  map_cut r e l = e ∙ both s (broken_at refusal.Cut) (sym (opens Cut cut)) (sym (ap (places_by s) cut))
     where
       cut : span_of s 0 ≡ Cut
       cut = rw (← y.is) (simp (lt-leb (0 + 1 + h.wide) (length s) (omega (arith, some))))

@@ -9,12 +9,14 @@ use lib.Dec.{eqb, eqb→eq}
 use lib.ListN.{length, get_or, take, drop, set, length-append}
 use mir.Syntax.{w16}
 use mir.Val.{Fits}
+use Rattle.std.specs.Prelude.{Ok, Err}
+use Rattle.refusal.specs.declared.Broken.{Broken}
 use Rattle.octets.proofs.{Places.here, Places.here_lt, Ranges.ranged}
 use Rattle.element.specs.declared.Head.{Head}
-use Rattle.element.specs.declared.Step.{Step, TheVariants.Next, TheVariants.Broken}
+use Rattle.element.specs.declared.Next.{Next}
 use Rattle.element.specs.{Lead.head_of, Lead.lead_bytes, Lead.row_in, Code.Items.items_of, Code.At.body_from}
 use Rattle.element.specs.{Tree.Tree.leaf, Tree.Tree.array, Tree.Tree.map}
-use Rattle.element.specs.Form.{Role, then, times, element_of}
+use Rattle.element.specs.Form.{Role, Step, next, then, times, element_of}
 use Rattle.element.specs.Tree.{Tree, bytes_of, bytes_of_all, bytes_of_pairs, Lawful}
 use Rattle.element.proofs.Found.{found}
 use Rattle.names.specs.Code.Slots.{slot_of}
@@ -32,15 +34,15 @@ head_room s p (array b l ts) t L e =
 head_room s p (map b l ps) t L e =
     (here_lt s p b ((l ++ bytes_of_pairs ps) ++ t) e, rw (here s p b ((l ++ bytes_of_pairs ps) ++ t) e, ← L.0.wide) (omega (arith, length-append l (bytes_of_pairs ps))))
 
-module _ (s : List ℕ) (p c q i : ℕ) (r : Step) (e : r ≡ element_of s 7 Role.key p c) (f : r ≡ Next q i) where
+module _ (s : List ℕ) (p c : ℕ) (r : Step) (e : r ≡ element_of s 7 Role.key p c) (k : Next) (f : r ≡ Ok k) where
   -- a key that was passed stands from p to q
-  pub key_room : IsKey s p q
+  pub key_room : IsKey s p k.at
   key_room =
-      let F = found 7 s Role.key p c q i (sym e ∙ f) in
-      let R = head_room s p F.tree (drop q s) F.lawful F.stands.bytes in
+      let F = found 7 s Role.key p c k.at k.count (sym e ∙ f) in
+      let R = head_room s p F.tree (drop k.at s) F.lawful F.stands.bytes in
       record { there = R.0; head = rw F.stands.place R.1; within = F.stands.within }
 
-  pub place_fits : length s ≤ 4096 → Fits w16 q
+  pub place_fits : length s ≤ 4096 → Fits w16 k.at
   place_fits h = record { fits = omega (arith, key_room.within) }
 
 items_more : (s : List ℕ) (n p c : ℕ) → 0 < n
@@ -56,42 +58,43 @@ unfolding notes_of
 notes_more s zero p c a h = absurd (omega arith)
 notes_more s (suc n) p c a h = rw sub-one
 
--- w is the walk's answer and b the places; k pairs from x on are left, after c elements, with the places a
-module _ (s : List ℕ) (w : Step) (b : List ℕ) (k x c : ℕ) (a : List ℕ) (i : w ≡ items_of s 7 true k x c) (j : b ≡ notes_of s k x c a) where
-  pub done_walk : k ≤ 0 → Next x c ≡ w
+-- w is the walk's answer and b the places; of n pairs those from x on are left at the turn i, after c elements, with the places a
+module _ (s : List ℕ) (w : Step) (b : List ℕ) (n i x c : ℕ) (a : List ℕ) (f : w ≡ items_of s 7 true (n - i) x c) (j : b ≡ notes_of s (n - i) x c a) where
+  pub done_walk : n ≤ i → next x c ≡ w
   unfolding items_of times
   done_walk h =
-      let z : k ≡ 0 = omega arith in
-      sym (i ∙ rw z)
+      let z : n - i ≡ 0 = omega arith in
+      sym (f ∙ rw z)
 
-  pub done_places : k ≤ 0 → a ≡ b
+  pub done_places : n ≤ i → a ≡ b
   unfolding notes_of
   done_places h =
-      let z : k ≡ 0 = omega arith in
+      let z : n - i ≡ 0 = omega arith in
       sym (j ∙ rw z)
 
-  module _ (h : 0 < k) (r : Step) (e : r ≡ element_of s 7 Role.key x c) where
-    pub key_walk : (u v : ℕ) → r ≡ Broken u v → Broken u v ≡ w
-    key_walk u v f = sym (i ∙ items_more s k x c h ∙ simp (← e, f))
+  module _ (h : i < n) (r : Step) (e : r ≡ element_of s 7 Role.key x c) where
+    pub key_walk : (u : Broken) → r ≡ Err u → Err u ≡ w
+    key_walk u g = sym (f ∙ items_more s (n - i) x c (omega arith) ∙ simp (← e, g))
 
-    pub key_places : (u v : ℕ) → r ≡ Broken u v → a ≡ b
-    key_places u v f = sym (j ∙ notes_more s k x c a h ∙ simp (← e, f))
+    pub key_places : (u : Broken) → r ≡ Err u → a ≡ b
+    key_places u g = sym (j ∙ notes_more s (n - i) x c a (omega arith) ∙ simp (← e, g))
 
-    module _ (q d : ℕ) (f : r ≡ Next q d) (t : Step) (g : t ≡ element_of s 7 Role.value q d) where
-      pub value_walk : (u v : ℕ) → t ≡ Broken u v → Broken u v ≡ w
-      value_walk u v m = sym (i ∙ items_more s k x c h ∙ simp (← e, f, ← g, m))
+    module _ (k : Next) (g : r ≡ Ok k) (t : Step) (v : t ≡ element_of s 7 Role.value k.at k.count) where
+      pub value_walk : (u : Broken) → t ≡ Err u → Err u ≡ w
+      value_walk u m = sym (f ∙ items_more s (n - i) x c (omega arith) ∙ simp (← e, g, ← v, m))
 
-      pub value_places : (u v : ℕ) → t ≡ Broken u v → a ≡ b
-      value_places u v m = sym (j ∙ notes_more s k x c a h ∙ simp (← e, f, ← g, m))
+      pub value_places : (u : Broken) → t ≡ Err u → a ≡ b
+      value_places u m = sym (j ∙ notes_more s (n - i) x c a (omega arith) ∙ simp (← e, g, ← v, m))
 
-      module _ (z l : ℕ) (m : t ≡ Next z l) where
-        pub next_walk : w ≡ items_of s 7 true (k - 1) z l
-        next_walk = i ∙ items_more s k x c h ∙ simp (← e, f, ← g, m)
+      module _ (l : Next) (m : t ≡ Ok l) where
+        less : n - (i + 1) ≡ n - i - 1
+        less = omega arith
 
-        pub next_places : (y n : ℕ) → y ≡ slot_of (key_at s x q) → n ≡ note_of (get_or a y 0) q → b ≡ notes_of s (k - 1) z l (set a y n)
-        next_places y n o v = j ∙ notes_more s k x c a h ∙ simp (← e, f, ← g, m, ← o, ← v)
+        pub next_walk : w ≡ items_of s 7 true (n - (i + 1)) l.at l.count
+        next_walk = rw less (f ∙ items_more s (n - i) x c (omega arith) ∙ simp (← e, g, ← v, m))
 
-pub ruleset turns = (key_room, place_fits, done_walk, done_places, key_walk, key_places, value_walk, value_places, next_walk, next_places)
+        pub next_places : (y z : ℕ) → y ≡ slot_of (key_at s x k.at) → z ≡ note_of (get_or a y 0) k.at → b ≡ notes_of s (n - (i + 1)) l.at l.count (set a y z)
+        next_places y z o q = rw less (j ∙ notes_more s (n - i) x c a (omega arith) ∙ simp (← e, g, ← v, m, ← o, ← q))
 
 -- one more place
 module _ (old q : ℕ) where

@@ -11,14 +11,14 @@ ghost use Rattle.walk.specs.Code.Short.{Announces};
 ghost use Rattle.message.specs.Code.Cells.{command_at};
 ghost use Rattle.notes.specs.Code.Noted.{noted_of, opened_of, BeginsMap, IsTextAt};
 
-use element::{Head, Shape};
-use octets::refusals;
+use element::{Head, Next, Shape};
 use pass::{broken, pass_pairs};
+use refusal::{Broken, Refusal};
 
 // The walk's answer, and the place of each key's value by slot: 0 nowhere, 1 more than once. Slot 55 is for keys of no command.
 #[derive(Clone, Copy)]
 pub struct Noted {
-    pub step: element::Step,
+    pub step: Result<Next, Broken>,
     pub places: [u16; 64],
 }
 
@@ -27,7 +27,7 @@ pub fn outer(s: &[u8]) -> Noted
     ensures { result ≡ noted_of s.now }
 {
     if !octets::is_size(s.len()) {
-        return broken(refusals::SIZE);
+        return broken(Refusal::Size);
     }
     opened(s)
 }
@@ -39,12 +39,12 @@ fn opened(s: &[u8]) -> Noted
 {
     let b = s[0];
     if b == 0xC1 {
-        return broken(refusals::NEVER_USED);
+        return broken(Refusal::NeverUsed);
     }
     if walk::lead::is_map(b) {
         return opened_map(s);
     }
-    broken(refusals::OUTER_NOT_MAP)
+    broken(Refusal::OuterNotMap)
 }
 
 // An outer map: how many pairs it states, and where they begin.
@@ -55,7 +55,7 @@ fn opened_map(s: &[u8]) -> Noted
     let h = map_head(s[0]);
     let wide = h.wide;
     if s.len() - 1 < wide {
-        return broken(refusals::CUT);
+        return broken(Refusal::Cut);
     }
     let from = 1 + wide;
     let n = h.more + (length_at(s, 1, wide) as usize);

@@ -7,7 +7,8 @@ ghost use Rattle.message.specs.Code.Notes.{key_at, note_of, notes_of, unnoted};
 ghost use Rattle.notes.specs.Code.Noted.{broken_at, IsKey};
 
 use crate::Noted;
-use element::Step;
+use element::Next;
+use refusal::{Broken, Refusal};
 use walk::steps::{key, value};
 
 // n pairs from a place on, behind the outer map's head.
@@ -16,47 +17,34 @@ pub fn pass_pairs(s: &[u8], from: usize, n: usize) -> Noted
     ensures walk { result.step ≡ items_of s.now 7 true n from 1 }
     ensures places { result.places ≡ notes_of s.now n from 1 unnoted }
 {
-    let mut at = [0u16; 64];
-    let mut k = n;
-    let mut x = from;
-    let mut c: usize = 1;
-    while 0 < k {
-        match key(s, x, c, 7) {
-            Step::Broken { number, place } => {
-                return Noted {
-                    step: Step::Broken { number, place },
-                    places: at,
-                };
-            }
-            Step::Next { at: q, count: d } => match value(s, q, d, 7) {
-                Step::Broken { number, place } => {
-                    return Noted {
-                        step: Step::Broken { number, place },
-                        places: at,
-                    };
-                }
-                Step::Next { at: z, count: f } => {
-                    let i = slot_at(s, x, q);
-                    at[i] = note(at[i], q as u16);
-                    x = z;
-                    c = f;
-                    k -= 1;
-                }
-            },
-        }
+    let mut places = [0u16; 64];
+    let step = pass(s, from, n, &mut places);
+    Noted { step, places }
+}
+
+// The same, with the places noted in the room of the caller: those that stood before a break are noted.
+fn pass(s: &[u8], from: usize, n: usize, places: &mut [u16; 64]) -> Result<Next, Broken>
+    requires { length s.now ≤ 4096 }
+    ensures walk { result ≡ items_of s.now 7 true n from 1 }
+    ensures places { places.new ≡ notes_of s.now n from 1 places.old }
+{
+    let mut next = Next { at: from, count: 1 };
+    for _ in 0..n {
+        let behind = key(s, next.at, next.count, 7)?;
+        let value = value(s, behind.at, behind.count, 7)?;
+        let slot = slot_at(s, next.at, behind.at);
+        places[slot] = note(places[slot], behind.at as u16);
+        next = value;
     }
-    Noted {
-        step: Step::Next { at: x, count: c },
-        places: at,
-    }
+    Ok(next)
 }
 
 // A walk that breaks at its first byte.
-pub fn broken(number: u8) -> Noted
-    ensures { result ≡ broken_at number }
+pub fn broken(refusal: Refusal) -> Noted
+    ensures { result ≡ broken_at refusal }
 {
     Noted {
-        step: Step::Broken { number, place: 0 },
+        step: Err(Broken { refusal, place: 0 }),
         places: [0u16; 64],
     }
 }

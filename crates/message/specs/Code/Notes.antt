@@ -1,7 +1,6 @@
 -- The same in the bytes: where the value of each key stands. The code goes by these; proofs/Stands ties them to elements.
-use Rattle.std.specs.Prelude.{ℕ, zero, suc, ◌-◌, List, get_or, take, drop, set, replicate}
-use Rattle.element.specs.declared.Step.{Step, TheVariants.Next, TheVariants.Broken}
-use Rattle.element.specs.{Form.Role, Form.element_of, Code.At.body_from}
+use Rattle.std.specs.Prelude.{ℕ, zero, suc, ◌-◌, List, get_or, take, drop, set, replicate, Ok, Err}
+use Rattle.element.specs.{Form.Role, Form.Step, Form.element_of, Code.At.body_from}
 use Rattle.names.specs.Code.Slots.{slot_of}
 
 -- the body of the text that stands from p to q
@@ -14,8 +13,8 @@ note_of zero q = q
 note_of (suc n) q = 1
 
 abbrev pub on_next : Step → List ℕ → (ℕ → ℕ → List ℕ) → List ℕ
-on_next (Next a c) x k = k a c
-on_next (Broken n a) x k = x
+on_next (Ok n) x k = k n.at n.count
+on_next (Err b) x k = x
 
 -- one more value of a key
 abbrev pub noted : List ℕ → ℕ → ℕ → List ℕ

@@ -1,23 +1,23 @@
 -- The walk of a payload's outer element, and where the value of each key of its map stands.
 use mathlib.Core.{Path.◌≡◌, Bool.true, List.List}
 use Rattle.std.specs.Prelude.{ℕ, ◌≤◌, ◌<◌, length, get_or}
+use Rattle.refusal.specs.declared.{Refusal.Refusal, Refusal.TheVariants.Size}
 use Rattle.octets.specs.{Choice.either, Size.is_size}
 use Rattle.element.specs.declared.Shape.TheVariants.{Map, Text}
-use Rattle.element.specs.declared.Step.TheVariants.{Broken}
-use Rattle.element.specs.{Lead.head_of, Form.Role, Form.element_of, Code.At.body_from}
+use Rattle.element.specs.{Lead.head_of, Form.Role, Form.broken, Form.element_of, Code.At.body_from}
 use Rattle.message.specs.{Code.Cells.places_of, Code.Notes.unnoted}
 use Rattle.notes.specs.declared.Noted.{Noted}
 
-abbrev pub broken_at : ℕ → Noted
-broken_at n = record { step = Broken n 0; places = unnoted }
+abbrev pub broken_at : Refusal → Noted
+broken_at r = record { step = broken r 0; places = unnoted }
 
 -- a walk that breaks has noted what stood before the break
 unfoldable pub opened_of : List ℕ → Noted
 opened_of s = record { step = element_of s 8 Role.outer 0 0; places = places_of s }
 
--- a payload of no lawful size is refused 3
+-- a payload of no lawful size is refused
 unfoldable pub noted_of : List ℕ → Noted
-noted_of s = either (is_size (length s)) (λ _. opened_of s) (λ _. broken_at 3)
+noted_of s = either (is_size (length s)) (λ _. opened_of s) (λ _. broken_at Size)
 
 -- a payload that begins with the lead byte of a map
 pub record BeginsMap (s : List ℕ) : Type 0 where
