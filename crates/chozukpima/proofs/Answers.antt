@@ -3,8 +3,9 @@ use mathlib.Core.Path.{◌≡◌, refl, sym, ap, ◌∙◌}
 use Prim.Native.Nat.{ℕ, ◌+◌, ◌*◌, ◌≤◌, ◌<◌}
 use native.Mathlib.Omega.{arith}
 use borrow.Author.Tests.{le-leb, lt-leb}
-use Rattle.element.specs.declared.Walked.{Walked}
-use Rattle.element.specs.declared.Walked.TheVariants as walked
+use Rattle.std.specs.Prelude.{Ok, Err}
+use Rattle.refusal.specs.{Number.number_of, declared.Broken.Broken}
+use Rattle.element.specs.Form.{Walked}
 use Rattle.frame.specs.declared.Framed.{Framed, TheVariants.Whole, TheVariants.Refused}
 use Rattle.meters.specs.declared.{Found.Found, Credit.Credit}
 use Rattle.meters.specs.declared.Found.TheVariants as found
@@ -32,12 +33,14 @@ module _ (f : Framed) (r k : ℕ) where
   pub frame_refused : f ≡ Refused k → r ≡ packed k 0 0 → r ≡ frame_answer f
   frame_refused e p = p ∙ ap frame_answer (sym e)
 
-module _ (w : Walked) (r k : ℕ) where
-  pub form_whole : w ≡ walked.Whole k → r ≡ packed 0 0 k → r ≡ form_answer w
-  form_whole e p = let z : k ≡ k + 0 = omega arith in p ∙ ap (packed 0 0) z ∙ ap form_answer (sym e)
+module _ (w v : Walked) (i : v ≡ w) (r : ℕ) where
+  pub form_whole : (k : ℕ) → v ≡ Ok k → r ≡ packed 0 0 k → r ≡ form_answer w
+  form_whole k e p = let z : k ≡ k + 0 = omega arith in p ∙ ap (packed 0 0) z ∙ ap form_answer (sym e ∙ i)
 
-  pub form_refused : (p : ℕ) → w ≡ walked.Refused k p → r ≡ packed k 0 p → r ≡ form_answer w
-  form_refused p e q = let z : p ≡ 0 + p = omega arith in q ∙ ap (packed k 0) z ∙ ap form_answer (sym e)
+  pub form_refused : (b : Broken) (k : ℕ) → v ≡ Err b → k ≡ number_of b.refusal → r ≡ packed k 0 b.place → r ≡ form_answer w
+  form_refused b k e n q =
+      let z : b.place ≡ 0 + b.place = omega arith in
+      q ∙ ap (λ x. packed x 0 b.place) n ∙ ap (packed (number_of b.refusal) 0) z ∙ ap form_answer (sym e ∙ i)
 
 module _ (f : Found) (r k : ℕ) where
   pub place_found : f ≡ found.At k → r ≡ packed 0 0 k → r ≡ packed (table_refusal f) 0 (row_of f)

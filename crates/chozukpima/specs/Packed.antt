@@ -2,7 +2,6 @@
 -- hearers and row, or the place for refusals 4 to 10. A value past 48 bits, which no memory has room for, shows as the greatest.
 use Rattle.std.specs.Prelude.{ℕ, ◌+◌, ◌*◌, ◌/◌, ◌%◌, leb}
 use Rattle.octets.specs.Choice.{either}
-use Rattle.element.specs.declared.Walked.{Walked}
 use Rattle.element.specs.Form as Form
 use Rattle.frame.specs.declared.Framed.{Framed}
 use Rattle.frame.specs.Frame.{frame_refusal, used_of}
@@ -37,7 +36,7 @@ abbrev pub frame_answer : Framed → ℕ
 frame_answer f = packed (frame_refusal f) 0 (used_of f)
 
 -- the count of elements, or the place of a break: where one is said the other is 0
-abbrev pub form_answer : Walked → ℕ
+abbrev pub form_answer : Form.Walked → ℕ
 form_answer w = packed (Form.walk_refusal w) 0 (Form.elements_of w + Form.walk_place w)
 
 abbrev pub place_answer : Done Found → ℕ

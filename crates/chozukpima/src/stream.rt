@@ -5,8 +5,8 @@ ghost use Rattle.frame.specs.Frame.{framed_of};
 ghost use Rattle.chozukpima.specs.Packed.{frame_answer, form_answer};
 
 use crate::answer::pack;
-use element::Walked;
 use frame::Framed;
+use refusal::Broken;
 
 // A frame at the start of the bytes: how many bytes it takes; 1, 2, 3.
 pub fn chz_frame(bytes: &[u8]) -> u64
@@ -22,14 +22,8 @@ pub fn chz_frame(bytes: &[u8]) -> u64
 pub fn chz_form(payload: &[u8]) -> u64
     ensures { result ≡ form_answer (walk_of payload.now) }
 {
-    walked(walk::walk(payload))
-}
-
-fn walked(w: Walked) -> u64
-    ensures { result ≡ form_answer w }
-{
-    match w {
-        Walked::Whole(n) => pack(0, 0, n),
-        Walked::Refused(k, p) => pack(k, 0, p),
+    match walk::walk(payload) {
+        Ok(n) => pack(0, 0, n),
+        Err(Broken { refusal, place }) => pack(refusal.number(), 0, place),
     }
 }

@@ -5,9 +5,11 @@ use Prim.Native.Nat.{ℕ, max, ◌+◌, ◌-◌, ◌/◌, ◌^◌, ◌≤◌, �
 use native.Mathlib.Omega.{arith}
 use lib.ListN.{length, get_or, replicate}
 use borrow.Author.Tests.{lt-ltb, le-ltb, eq-eqb, ne_eqb}
+use Rattle.std.specs.Prelude.{Ok, Err}
+use Rattle.refusal.specs.{Number.number_of, declared.Broken.Broken, declared.Refusal.TheVariants.Size}
 use Rattle.octets.specs.{Choice.either, Size.is_size, Bytes.put_at}
-use Rattle.element.specs.declared.Step.{Step, TheVariants.Next, TheVariants.Broken}
-use Rattle.element.specs.Form.{Role, element_of}
+use Rattle.element.specs.declared.Next.{Next}
+use Rattle.element.specs.Form.{Role, Step, element_of}
 use Rattle.frame.specs.declared.Framed.{Framed, TheVariants.Whole, TheVariants.Refused}
 use Rattle.frame.specs.Frame.{framed_of, payload_of}
 use Rattle.frame.proofs.Format.{fits}
@@ -79,33 +81,33 @@ module _ (s places : List ℕ) (count : ℕ) (d : List ℕ) (k : ℕ) (is_number
 
 -- the walk's answer
 module _ (s places d : List ℕ) (x : Step) where
-  pub stepped_broken : (t : Told) (n p : ℕ) → x ≡ Broken n p → t ≡ refused_at n p → answer t d ≡ stepped_by s places d x
+  pub stepped_broken : (t : Told) (b : Broken) (n : ℕ) → x ≡ Err b → n ≡ number_of b.refusal → t ≡ refused_at n b.place → answer t d ≡ stepped_by s places d x
   unfolding stepped_by
-  stepped_broken t n p h e = ap (λ (y : Told). answer y d) e ∙ sym (rw h)
+  stepped_broken t b n h i e = ap (λ (y : Told). answer y d) (rw i at e) ∙ sym (rw h)
 
-  module _ (at count : ℕ) (h : x ≡ Next at count) where
-    pub stepped_more : (t : Told) → at < length s → t ≡ refused_at 10 at → answer t d ≡ stepped_by s places d x
+  module _ (n : Next) (h : x ≡ Ok n) where
+    pub stepped_more : (t : Told) → n.at < length s → t ≡ refused_at 10 n.at → answer t d ≡ stepped_by s places d x
     unfolding stepped_by
-    stepped_more t l e = ap (λ (y : Told). answer y d) e ∙ sym (rw h (simp (lt-ltb at (length s) l)))
+    stepped_more t l e = ap (λ (y : Told). answer y d) e ∙ sym (rw h (simp (lt-ltb n.at (length s) l)))
 
-    pub stepped_named : (a : Answered) → length s ≤ at → a ≡ named_by s places count d → a ≡ stepped_by s places d x
+    pub stepped_named : (a : Answered) → length s ≤ n.at → a ≡ named_by s places n.count d → a ≡ stepped_by s places d x
     unfolding stepped_by
-    stepped_named a l e = e ∙ sym (rw h (simp (le-ltb at (length s) l)))
+    stepped_named a l e = e ∙ sym (rw h (simp (le-ltb n.at (length s) l)))
 
 pub ruleset ways = (fields_refused, fields_enter, fields_read, named_known, named_other, named_none, stepped_broken, stepped_more, stepped_named)
 
 -- the walk and the places, together
 step_answer : (s d : List ℕ) (x : Step) → stepped_by s (places_of s) d x ≡ answer_by s d x
 unfolding stepped_by named_by
-step_answer s d (Broken n p) = refl
-step_answer s d (Next at count) = refl
+step_answer s d (Ok n) = refl
+step_answer s d (Err b) = refl
 
 noted_answer : (s d : List ℕ) → lent_size ≤ length d → stepped_by s (noted_of s).places d (noted_of s).step ≡ answer_at s d
 unfolding stepped_by answer_at noted_of opened_of
 noted_answer s d l = simp (le-ltb (length d) lent_size l) (go (is_size (length s)))
   where
     go : (a : Bool)
-        → stepped_by s (either a (λ _. opened_of s) (λ _. broken_at 3)).places d (either a (λ _. opened_of s) (λ _. broken_at 3)).step
+        → stepped_by s (either a (λ _. opened_of s) (λ _. broken_at Size)).places d (either a (λ _. opened_of s) (λ _. broken_at Size)).step
         ≡ either a (λ _. answer_by s d (element_of s 8 Role.outer 0 0)) (λ _. refuses 3 0 d)
     go true = step_answer s d (element_of s 8 Role.outer 0 0)
     go false = refl

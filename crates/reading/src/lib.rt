@@ -7,12 +7,14 @@ ghost use Rattle.record.specs.Meant.{Answered, refused_at, lent_size, Meant};
 ghost use Rattle.reading.specs.Framed.{MeantFramed};
 ghost use Rattle.reading.specs.Code.Ways.{Enters, lent_after, fields_by, named_by, stepped_by};
 
-use element::Step;
+use element::Next;
 use frame::Framed;
 use names::numbers::COMMANDS;
 use names::slots;
+use notes::Noted;
 use octets::refusals;
 use record::{Body, Told};
+use refusal::Broken;
 
 // So many lent bytes are enough for every message's; and so many for ulData's.
 const LENT_SIZE: usize = 880;
@@ -33,9 +35,7 @@ pub fn read(s: &[u8], d: &mut [u8]) -> Told
     if d.len() < LENT_SIZE {
         return refused(refusals::INVALID, 0);
     }
-    let noted = notes::outer(s);
-    let step = noted.step;
-    let places = noted.places;
+    let Noted { step, places } = notes::outer(s);
     stepped(s, step, &places, d)
 }
 
@@ -70,14 +70,14 @@ fn refused(number: u8, place: usize) -> Told
     }
 }
 
-// By the walk's answer. 10: bytes are left over.
-fn stepped(s: &[u8], step: Step, places: &[u16; 64], d: &mut [u8]) -> Told
+// By the walk's answer: a break, or bytes that are left over.
+fn stepped(s: &[u8], step: Result<Next, Broken>, places: &[u16; 64], d: &mut [u8]) -> Told
     requires { lent_size ≤ length d.old }
     ensures { ◌≡◌ {A = Answered} (record { told = result; lent = d.new }) (stepped_by s.now places.now d.old step) }
 {
     match step {
-        Step::Broken { number, place } => refused(number, place),
-        Step::Next { at, count } => {
+        Err(Broken { refusal, place }) => refused(refusal.number(), place),
+        Ok(Next { at, count }) => {
             if at < s.len() {
                 return refused(refusals::LEFT_OVER, at);
             }

@@ -6,10 +6,10 @@ use Prim.Native.Nat.{ℕ, ◌≤◌, ◌<◌}
 use native.Mathlib.Omega.{arith}
 use lib.{Dec.ltb, Dec.lit<, ListN.length, ListN.get_or}
 use borrow.Author.Tests.{lt-ltb, le-ltb, eq-eqb, ltb-false}
+use Rattle.std.specs.Prelude.{Ok, Err}
+use Rattle.refusal.specs.{Number.number_of, declared.Broken.Broken, declared.Refusal.TheVariants.Size, declared.Refusal.TheVariants.LeftOver}
 use Rattle.octets.specs.{Choice.either, Size.is_size}
-use Rattle.element.specs.declared.Step.{Step, TheVariants.Next, TheVariants.Broken}
-use Rattle.element.specs.declared.Walked.{Walked, TheVariants.Whole, TheVariants.Refused}
-use Rattle.element.specs.Form.{Role, element_of, ended, walk_of, walk_refusal, walk_place}
+use Rattle.element.specs.Form.{Role, Step, Walked, broken, element_of, ended, walk_of, walk_refusal, walk_place}
 use Rattle.element.specs.{Tree.count_of, Meaning.Fields, Meaning.meaning_of}
 use Rattle.element.proofs.{Whole.tree_whole, Numbered.break_number}
 use Rattle.names.specs.{Names.bytes, Names.name_at, Names.command_of, Code.Slots.keys}
@@ -42,15 +42,15 @@ module _ (s places : List ℕ) (fs : Fields) (h : Agrees s places fs) where
 module _ (s d : List ℕ) where
   -- the walk's answer decides whether there is a reading
   walked : Walked → Answered
-  walked (Refused n p) = refuses n p d
-  walked (Whole c) = answer_of c d (reading_at s (places_of s))
+  walked (Err b) = refuses (number_of b.refusal) b.place d
+  walked (Ok c) = answer_of c d (reading_at s (places_of s))
 
   ended_answer : (r : Step) → answer_by s d r ≡ walked (ended (length s) r)
   unfolding walked
-  ended_answer (Broken n p) = refl
-  ended_answer (Next a c) = go (ltb a (length s))
+  ended_answer (Err b) = refl
+  ended_answer (Ok n) = go (ltb n.at (length s))
     where
-      go : (t : Bool) → either t (λ _. refuses 10 a d) (λ _. answer_of c d (reading_at s (places_of s))) ≡ walked (either t (λ _. Refused 10 a) (λ _. Whole c))
+      go : (t : Bool) → either t (λ _. refuses 10 n.at d) (λ _. answer_of n.count d (reading_at s (places_of s))) ≡ walked (either t (λ _. broken LeftOver n.at) (λ _. Ok n.count))
       go true = refl
       go false = refl
 
@@ -59,14 +59,14 @@ module _ (s d : List ℕ) where
   answer_walked l = simp (le-ltb (length d) lent_size l) (go (is_size (length s)))
     where
       go : (a : Bool) → either a (λ _. answer_by s d (element_of s 8 Role.outer 0 0)) (λ _. refuses 3 0 d)
-          ≡ walked (either a (λ _. ended (length s) (element_of s 8 Role.outer 0 0)) (λ _. Refused 3 0))
+          ≡ walked (either a (λ _. ended (length s) (element_of s 8 Role.outer 0 0)) (λ _. broken Size 0))
       go true = ended_answer (element_of s 8 Role.outer 0 0)
       go false = refl
 
   walked_broken : (r : Walked) → (walk_refusal r ≡ 0 → ⊥) → walked r ≡ refuses (walk_refusal r) (walk_place r) d
   unfolding walked
-  walked_broken (Refused n p) b = refl
-  walked_broken (Whole c) b = absurd (b refl)
+  walked_broken (Err x) b = refl
+  walked_broken (Ok c) b = absurd (b refl)
 
   -- what the code answers is meant
   pub answer_meant : Meant s d (answer_at s d)
@@ -80,7 +80,7 @@ module _ (s d : List ℕ) where
   }
 
   -- of a payload whose walk breaks the break is told: its number is never 0
-  pub broken_told : (r : Answered) → Meant s d r → lent_size ≤ length d → (n p : ℕ) → walk_of s ≡ Refused n p → r ≡ refuses n p d
-  broken_told r m l n p e =
-      let b : 0 < n = break_number s n p e in
-      m.broken l (λ z. let i : n ≡ 0 = sym (ap walk_refusal e) ∙ z in omega arith) ∙ ap (λ (x : Walked). refuses (walk_refusal x) (walk_place x) d) e
+  pub broken_told : (r : Answered) → Meant s d r → lent_size ≤ length d → (b : Broken) → walk_of s ≡ Err b → r ≡ refuses (number_of b.refusal) b.place d
+  broken_told r m l b e =
+      let n : 0 < number_of b.refusal = break_number s b e in
+      m.broken l (λ z. let i : number_of b.refusal ≡ 0 = sym (ap walk_refusal e) ∙ z in omega arith) ∙ ap (λ (x : Walked). refuses (walk_refusal x) (walk_place x) d) e

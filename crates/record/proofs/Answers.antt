@@ -6,8 +6,9 @@ use Prim.Native.Nat.{ℕ, ◌≤◌, ◌<◌}
 use native.Mathlib.Omega.{arith}
 use lib.{Dec.ltb, Dec.lit<, ListN.length}
 use borrow.Author.Tests.{ltb-true, ltb-false}
-use Rattle.element.specs.declared.Walked.{Walked, TheVariants.Whole, TheVariants.Refused}
-use Rattle.element.specs.{Form.walk_of, Tree.Tree, Tree.count_of, Meaning.meaning_of}
+use Rattle.std.specs.Prelude.{Ok, Err}
+use Rattle.refusal.specs.Number.{number_of}
+use Rattle.element.specs.{Form.Walked, Form.walk_of, Tree.Tree, Tree.count_of, Meaning.meaning_of}
 use Rattle.element.proofs.{Whole.whole_tree, Numbered.break_number}
 use Rattle.message.specs.Reading.{outer_of}
 use Rattle.record.specs.declared.Message.{Message}
@@ -38,8 +39,12 @@ module _ (s d : List ℕ) where
   settled = go (ltb (length d) lent_size) refl
     where
       walked : lent_size ≤ length d → (x : Walked) → walk_of s ≡ x → Settled
-      walked l (Refused n p) e = record { answer = refuses n p d; form = refusing n p (break_number s n p e); only = λ r m. broken_told s d r m l n p e }
-      walked l (Whole c) e =
+      walked l (Err b) e = record {
+        answer = refuses (number_of b.refusal) b.place d;
+        form = refusing (number_of b.refusal) b.place (break_number s b e);
+        only = λ r m. broken_told s d r m l b e;
+      }
+      walked l (Ok c) e =
           let t = whole_tree s c e in
           record {
             answer = answer_of (count_of t.0) d (reading_of (outer_of (meaning_of t.0)));

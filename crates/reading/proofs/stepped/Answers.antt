@@ -6,8 +6,8 @@ use Rattle.reading.proofs.stepped.Goals as goal
 pub returns-then-at-s : goal.returns-then-at-s
 returns-then-at-s c = search (ways, rules)
 
-pub returns-in-Broken : goal.returns-in-Broken
-returns-in-Broken c = search (ways, rules)
+pub returns-in-Err : goal.returns-in-Err
+returns-in-Err c = search (ways, rules)
 
 pub returns-else-at-s : goal.returns-else-at-s
 returns-else-at-s c = search (ways, rules)

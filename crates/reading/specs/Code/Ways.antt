@@ -1,9 +1,10 @@
 -- For the private steps of reading. No statement of a public function rests on this page.
-use Rattle.std.specs.Prelude.{ℕ}
+use Rattle.std.specs.Prelude.{ℕ, Ok, Err}
 use mathlib.Core.{Path.◌≡◌, List.List}
 use lib.{Dec.ltb, ListN.length, ListN.take, ListN.get_or}
+use Rattle.refusal.specs.Number.{number_of}
 use Rattle.octets.specs.{Choice.either, Bytes.put_at, Pieces.downlink_bytes}
-use Rattle.element.specs.declared.Step.{Step, TheVariants.Next, TheVariants.Broken}
+use Rattle.element.specs.Form.{Step}
 use Rattle.names.specs.{Names.bytes, Code.Slots.slot_of}
 use Rattle.field.specs.{Kind.Kind, Judge.judge, Cell.Cell, Code.At.shallow_at, Code.At.cell_at, Code.At.string_filled}
 use Rattle.message.specs.{Fields.fields_of, Record.word_in, Code.Cells.cells_at}
@@ -53,5 +54,5 @@ named_by s places count d = answer_of count d (reading_at s places)
 
 -- by the walk's answer
 unfoldable pub stepped_by : List ℕ → List ℕ → List ℕ → Step → Answered
-stepped_by s places d (Broken n p) = refuses n p d
-stepped_by s places d (Next at count) = either (ltb at (length s)) (λ _. refuses 10 at d) (λ _. named_by s places count d)
+stepped_by s places d (Ok n) = either (ltb n.at (length s)) (λ _. refuses 10 n.at d) (λ _. named_by s places n.count d)
+stepped_by s places d (Err b) = refuses (number_of b.refusal) b.place d

@@ -1,9 +1,9 @@
 -- The answer by places in the bytes: what the code goes by. proofs/Answered ties it to `Meant`.
-use Rattle.std.specs.Prelude.{ℕ, List}
+use Rattle.std.specs.Prelude.{ℕ, List, Ok, Err}
 use lib.{Dec.eqb, Dec.ltb, ListN.length, ListN.get_or}
+use Rattle.refusal.specs.Number.{number_of}
 use Rattle.octets.specs.{Choice.either, Size.is_size}
-use Rattle.element.specs.declared.Step.{Step, TheVariants.Next, TheVariants.Broken}
-use Rattle.element.specs.Form.{Role, element_of}
+use Rattle.element.specs.Form.{Role, Step, element_of}
 use Rattle.message.specs.{Fields.fields_of, Code.Cells.cells_at, Code.Cells.places_of, Code.Cells.command_at}
 use Rattle.record.specs.Reading.{Reading, reading_by}
 use Rattle.record.specs.Meant.{Answered, refuses, answer_of, lent_size}
@@ -19,8 +19,8 @@ reading_at s places = reading_numbered s places (command_at s (get_or places 0 0
 
 -- the walk's answer, and behind a walk that went through the reading
 abbrev pub answer_by : List ℕ → List ℕ → Step → Answered
-answer_by s d (Broken n p) = refuses n p d
-answer_by s d (Next at count) = either (ltb at (length s)) (λ _. refuses 10 at d) (λ _. answer_of count d (reading_at s (places_of s)))
+answer_by s d (Ok n) = either (ltb n.at (length s)) (λ _. refuses 10 n.at d) (λ _. answer_of n.count d (reading_at s (places_of s)))
+answer_by s d (Err b) = refuses (number_of b.refusal) b.place d
 
 unfoldable pub answer_at : List ℕ → List ℕ → Answered
 answer_at s d =
