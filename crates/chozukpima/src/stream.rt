@@ -6,15 +6,14 @@ ghost use Rattle.chozukpima.specs.Packed.{frame_answer, form_answer};
 
 use crate::answer::pack;
 use element::Walked;
-use frame::Framed;
 
 // A frame at the start of the bytes: how many bytes it takes; 1, 2, 3.
 pub fn chz_frame(bytes: &[u8]) -> u64
     ensures { result ≡ frame_answer (framed_of bytes.now) }
 {
     match frame::read(bytes) {
-        Framed::Whole(n) => pack(0, 0, frame::HEAD + n),
-        Framed::Refused(k) => pack(k, 0, 0),
+        Ok(n) => pack(0, 0, frame::HEAD + n),
+        Err(e) => pack(e.number(), 0, 0),
     }
 }
 

@@ -8,8 +8,10 @@ use borrow.Author.Tests.{lt-ltb, le-ltb, eq-eqb, ne_eqb}
 use Rattle.octets.specs.{Choice.either, Size.is_size, Bytes.put_at}
 use Rattle.element.specs.declared.Step.{Step, TheVariants.Next, TheVariants.Broken}
 use Rattle.element.specs.Form.{Role, element_of}
-use Rattle.frame.specs.declared.Framed.{Framed, TheVariants.Whole, TheVariants.Refused}
-use Rattle.frame.specs.Frame.{framed_of, payload_of}
+use Rattle.std.specs.Prelude.{Ok, Err}
+use Rattle.refusal.specs.declared.Refusal.{Refusal}
+use Rattle.refusal.specs.Number.{number_of}
+use Rattle.frame.specs.Frame.{Framed, framed_of, payload_of}
 use Rattle.frame.proofs.Format.{fits}
 use Rattle.field.specs.Cell.{Cell}
 use Rattle.message.specs.{Fields.fields_of, Reading.gravest, Reading.crossed, Code.Cells.cells_at, Code.Cells.places_of, Code.Cells.command_at}
@@ -123,11 +125,11 @@ module _ (s d : List ℕ) where
       rw q at (answer_meant s d)
 
 -- the frame
-module _ (s d : List ℕ) (f : Framed) (e : f ≡ framed_of s) (n : ℕ) where
-  pub framed_refused : (t : Told) → f ≡ Refused n → t ≡ refused_at n 0 → MeantFramed s d (record { used = 0; told = t }) d
-  framed_refused t h q = refused_meant s d n (sym e ∙ h) t q
+module _ (s d : List ℕ) (f : Framed) (e : f ≡ framed_of s) where
+  pub framed_refused : (r : Refusal) (t : Told) (k : ℕ) → f ≡ Err r → k ≡ number_of r → t ≡ refused_at k 0 → MeantFramed s d (record { used = 0; told = t }) d
+  framed_refused r t k h g q = refused_meant s d r (sym e ∙ h) t (q ∙ ap (λ (n : ℕ). refused_at n 0) g)
 
-  module _ (h : f ≡ Whole n) where
+  module _ (n : ℕ) (h : f ≡ Ok n) where
     pub framed_whole : (p : List ℕ) (t : Told) (l : List ℕ) → p ≡ payload_of n s → Meant p d (answer t l) → MeantFramed s d (record { used = 12 + n; told = t }) l
     framed_whole p t l q m = whole_meant s d n (sym e ∙ h) t l (subst (λ (y : List ℕ). Meant y d (answer t l)) q m)
 

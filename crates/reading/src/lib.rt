@@ -8,7 +8,6 @@ ghost use Rattle.reading.specs.Framed.{MeantFramed};
 ghost use Rattle.reading.specs.Code.Ways.{Enters, lent_after, fields_by, named_by, stepped_by};
 
 use element::Step;
-use frame::Framed;
 use names::numbers::COMMANDS;
 use names::slots;
 use octets::refusals;
@@ -44,11 +43,11 @@ pub fn read_framed(s: &[u8], d: &mut [u8]) -> Unframed
     ensures { MeantFramed s.now d.old result d.new }
 {
     match frame::read(s) {
-        Framed::Refused(number) => Unframed {
+        Err(e) => Unframed {
             used: 0,
-            told: refused(number, 0),
+            told: refused(e.number(), 0),
         },
-        Framed::Whole(size) => Unframed {
+        Ok(size) => Unframed {
             used: frame::HEAD + size,
             told: read(frame::payload(s, size), d),
         },

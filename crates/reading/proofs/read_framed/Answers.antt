@@ -6,8 +6,8 @@ use Rattle.reading.proofs.read_framed.Goals as goal
 pub overflow_add-result : goal.overflow_add-result
 overflow_add-result c = search (reads, rules)
 
-pub returns-in-Refused : goal.returns-in-Refused
-returns-in-Refused c = search (reads, rules)
+pub returns-in-Err : goal.returns-in-Err
+returns-in-Err c = search (reads, rules)
 
-pub returns-in-Whole : goal.returns-in-Whole
-returns-in-Whole c = search (reads, rules)
+pub returns-in-Ok : goal.returns-in-Ok
+returns-in-Ok c = search (reads, rules)
