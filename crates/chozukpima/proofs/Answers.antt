@@ -3,10 +3,19 @@ use mathlib.Core.Path.{◌≡◌, refl, sym, ap, ◌∙◌}
 use Prim.Native.Nat.{ℕ, ◌+◌, ◌*◌, ◌≤◌, ◌<◌}
 use native.Mathlib.Omega.{arith}
 use borrow.Author.Tests.{le-leb, lt-leb}
+<<<<<<< HEAD
 use Rattle.std.specs.Prelude.{Ok, Err}
 use Rattle.refusal.specs.{Number.number_of, declared.Broken.Broken}
 use Rattle.element.specs.Form.{Walked}
 use Rattle.frame.specs.declared.Framed.{Framed, TheVariants.Whole, TheVariants.Refused}
+=======
+use Rattle.element.specs.declared.Walked.{Walked}
+use Rattle.element.specs.declared.Walked.TheVariants as walked
+use Rattle.std.specs.Prelude.{Ok, Err}
+use Rattle.frame.specs.Frame.{Framed}
+use Rattle.refusal.specs.Number.{number_of}
+use Rattle.refusal.specs.declared.Refusal.{Refusal}
+>>>>>>> 255b9b8e8c0d7970a5994d3258e1b50779fd2a4e
 use Rattle.meters.specs.declared.{Found.Found, Credit.Credit}
 use Rattle.meters.specs.declared.Found.TheVariants as found
 use Rattle.meters.specs.declared.Credit.TheVariants as credit
@@ -27,11 +36,11 @@ unfolding packed
 packed_as a b x y v w e f g = rw (e, f, g)
 
 module _ (f : Framed) (r k : ℕ) where
-  pub frame_whole : f ≡ Whole k → r ≡ packed 0 0 (12 + k) → r ≡ frame_answer f
+  pub frame_whole : f ≡ Ok k → r ≡ packed 0 0 (12 + k) → r ≡ frame_answer f
   frame_whole e p = p ∙ ap frame_answer (sym e)
 
-  pub frame_refused : f ≡ Refused k → r ≡ packed k 0 0 → r ≡ frame_answer f
-  frame_refused e p = p ∙ ap frame_answer (sym e)
+  pub frame_refused : (b : Refusal) → f ≡ Err b → k ≡ number_of b → r ≡ packed k 0 0 → r ≡ frame_answer f
+  frame_refused b e g p = p ∙ ap (λ (n : ℕ). packed n 0 0) g ∙ ap frame_answer (sym e)
 
 module _ (w v : Walked) (i : v ≡ w) (r : ℕ) where
   pub form_whole : (k : ℕ) → v ≡ Ok k → r ≡ packed 0 0 k → r ≡ form_answer w

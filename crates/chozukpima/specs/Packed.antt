@@ -3,8 +3,7 @@
 use Rattle.std.specs.Prelude.{ℕ, ◌+◌, ◌*◌, ◌/◌, ◌%◌, leb}
 use Rattle.octets.specs.Choice.{either}
 use Rattle.element.specs.Form as Form
-use Rattle.frame.specs.declared.Framed.{Framed}
-use Rattle.frame.specs.Frame.{frame_refusal, used_of}
+use Rattle.frame.specs.Frame.{Framed, frame_refusal, used_of}
 use Rattle.meters.specs.declared.{Found.Found, Credit.Credit}
 use Rattle.meters.specs.declared.Credit.TheVariants as credit
 use Rattle.meters.specs.Columns.{Done, Columns}

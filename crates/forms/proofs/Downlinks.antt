@@ -7,13 +7,13 @@ use native.Mathlib.Nat.{sub-zero}
 use native.Mathlib.Omega.{arith}
 use lib.IntN.{pos}
 use lib.ListN.{length, take, drop, get_or, length-drop}
-use lib.Seq.{drop-cons, drop-drop, length-take-le}
+use lib.Seq.{drop-cons, drop-drop, get_or-take, get_or-drop, length-take-le}
 use mir.Syntax.{w64}
 use mir.Val.{Fits}
 use borrow.Author.Rules.{part_to_end}
 use Rattle.octets.specs.Number.{little_at, if_there}
 use Rattle.octets.specs.Pieces.{counters_from, counters_lent, cut_by, lengths_lent, pieces_lent, sum_of}
-use Rattle.octets.proofs.Reading.{byte_wide, if_there_lem}
+use Rattle.octets.proofs.Reading.{if_there_lem}
 use Rattle.forms.specs.Shortest.{array_head, head_bytes}
 use Rattle.forms.specs.Code.Put.{Put, put_parts, whole_parts, number_parts, numbers_parts, piece_parts, pieces_parts}
 use Rattle.forms.proofs.Putting.{parts_join, parts_then}
@@ -98,7 +98,38 @@ module _ (o : Put) (d : List ℕ) (n : ℕ) where
 pub pieces_start : (d : List ℕ) (n : ℕ) → 80 + sum_of (lengths_lent n d) ≤ length d → 80 + sum_of (lengths_left d n 0) ≤ length d
 pieces_start d n h = rw sub-zero h
 
-pub ruleset entries = (byte_wide, piece_there, piece_fits, pieces_start, pieces_none, pieces_more, pieces_all, arith)
+-- the sizes that the loop goes over, and a turn at the i-th of them, which is x
+abbrev pub sizes : List ℕ → ℕ → List ℕ
+sizes d n = take (64 + n - 64) (drop 64 d)
+
+module _ (d : List ℕ) (n i : ℕ) (few : n ≤ 16) (long : 80 + sum_of (lengths_lent n d) ≤ length d) where
+  sizes_long : length (sizes d n) ≡ n
+  sizes_long =
+      let k : 64 + n - 64 ≡ n = omega arith in
+      rw k (length-take-le n (drop 64 d) (omega (arith, length-drop 64 d)))
+
+  pub sizes_all : (o a : Put) (from : ℕ) → put_parts (piece_parts (cut_by (lengths_left d n i) (drop from d))) a ≡ put_parts (piece_parts (pieces_lent n d)) o → length (sizes d n) ≤ i → a ≡ put_parts (piece_parts (pieces_lent n d)) o
+  sizes_all o a from f l = pieces_all o d n a i from f (omega (arith, sizes_long))
+
+  module _ (l : i < length (sizes d n)) (x : ℕ) (e : x ≡ get_or (sizes d n) i 0) where
+    inner : i < n
+    inner = omega (arith, sizes_long)
+
+    size_is : get_or (sizes d n) i 0 ≡ get_or d (64 + i) 0
+    size_is = get_or-take (64 + n - 64) (drop 64 d) i 0 (omega (arith, inner)) ∙ get_or-drop 64 d i 0
+
+    pub turn_there : (from : ℕ) → from + sum_of (lengths_left d n i) ≤ length d → from + x + sum_of (lengths_left d n (i + 1)) ≤ length d
+    turn_there from h = rw (e, size_is) (piece_there d n i inner few long from h)
+
+    pub turn_fits : (from : ℕ) → from + sum_of (lengths_left d n i) ≤ length d → length d < 2 ^ 64 → Fits w64 (from + x)
+    turn_fits from h m = rw (e, size_is) (piece_fits d n i inner few long from h m)
+
+    pub turn_put : (o a b : Put) (from : ℕ) → put_parts (piece_parts (cut_by (lengths_left d n i) (drop from d))) a ≡ put_parts (piece_parts (pieces_lent n d)) o
+        → b ≡ put_parts (numbers_parts (take (get_or (sizes d n) i 0) (take (length d - from) (drop from d)))) a
+        → put_parts (piece_parts (cut_by (lengths_left d n (i + 1)) (drop (from + x) d))) b ≡ put_parts (piece_parts (pieces_lent n d)) o
+    turn_put o a b from f q = rw (e, size_is) (pieces_more o d n a i from f b (rw size_is at q) inner few long)
+
+pub ruleset entries = (turn_fits, pieces_start, pieces_none, arith)
 
 cut_length : (ns d : List ℕ) → length (cut_by ns d) ≡ length ns
 unfolding cut_by

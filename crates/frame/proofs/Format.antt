@@ -11,33 +11,27 @@ use lib.Seq.{take_all, drop-drop, drop_at, take-append_seam, length-take-le}
 use borrow.Author.Tests.{le-ltb, eq-eqb, ltb-false}
 use Rattle.octets.specs.{Choice.either, Bytes.IsBytes, Bytes.little_bytes, Size.is_size}
 use Rattle.octets.proofs.{Sizes.size_is, Sizes.sized_some, Sizes.sized_most, Digits.length_little, Digits.little_here, Digits.little_again}
-use Rattle.frame.specs.declared.Framed.TheVariants.{Whole, Refused}
-use Rattle.frame.specs.Frame.{identifier, agrees, framed_of, payload_of, size_of}
+use Rattle.refusal.specs.Number.{number_of}
+use Rattle.refusal.specs.declared.Refusal.{Refusal, TheVariants.FrameIncomplete, TheVariants.FrameIdentifier, TheVariants.Size}
+use Rattle.refusal.proofs.Numbers.{number_some}
+use Rattle.std.specs.Prelude.{Ok, Err}
+use Rattle.frame.specs.Frame.{Framed, identifier, agrees, framed_of, payload_of, size_of}
 use Rattle.frame.proofs.Identifier.{all_agree}
 
-refused_whole : {A : Type 0} (k n : ℕ) → Refused k ≡ Whole n → A
-refused_whole k n e = let z : ◌≡◌ {A = ℕ} 0 1 = cc in absurd (omega arith)
+refused_whole : {A : Type 0} (r : Refusal) (n : ℕ) → ◌≡◌ {A = Framed} (Err r) (Ok n) → A
+refused_whole r n e = cc
 
 -- the tests of a frame that is whole
-tests_of : (a b c d : Bool) (m n : ℕ) → either a (λ _. either b (λ _. Refused 1) (λ _. either c (λ _. either d (λ _. Refused 1) (λ _. Whole m)) (λ _. Refused 3))) (λ _. Refused 2) ≡ Whole n → (a ≡ true) × (b ≡ false) × (c ≡ true) × (d ≡ false) × (m ≡ n)
-tests_of false b c d m n e = refused_whole 2 n e
-tests_of true true c d m n e = refused_whole 1 n e
-tests_of true false false d m n e = refused_whole 3 n e
-tests_of true false true true m n e = refused_whole 1 n e
+tests_of : (a b c d : Bool) (m n : ℕ) → either a (λ _. either b (λ _. Err FrameIncomplete) (λ _. either c (λ _. either d (λ _. Err FrameIncomplete) (λ _. Ok m)) (λ _. Err Size))) (λ _. Err FrameIdentifier) ≡ Ok n → (a ≡ true) × (b ≡ false) × (c ≡ true) × (d ≡ false) × (m ≡ n)
+tests_of false b c d m n e = refused_whole FrameIdentifier n e
+tests_of true true c d m n e = refused_whole FrameIncomplete n e
+tests_of true false false d m n e = refused_whole Size n e
+tests_of true false true true m n e = refused_whole FrameIncomplete n e
 tests_of true false true false m n e = (refl, refl, refl, refl, cc)
 
 -- no frame is refused with the number 0
-refused_tests : (a b c d : Bool) (m k : ℕ) → either a (λ _. either b (λ _. Refused 1) (λ _. either c (λ _. either d (λ _. Refused 1) (λ _. Whole m)) (λ _. Refused 3))) (λ _. Refused 2) ≡ Refused k → 0 < k
-refused_tests false b c d m k e = let i : 2 ≡ k = cc in omega arith
-refused_tests true true c d m k e = let i : 1 ≡ k = cc in omega arith
-refused_tests true false false d m k e = let i : 3 ≡ k = cc in omega arith
-refused_tests true false true true m k e = let i : 1 ≡ k = cc in omega arith
-refused_tests true false true false m k e = refused_whole k m (sym e)
-
-pub refused_number : (s : List ℕ) (k : ℕ) → framed_of s ≡ Refused k → 0 < k
-unfolding framed_of
-refused_number s k e =
-    refused_tests (agrees identifier s) (ltb (length s) 12) (is_size (size_of s)) (ltb (length s) (12 + size_of s)) (size_of s) k e
+pub refused_number : (s : List ℕ) (r : Refusal) → framed_of s ≡ Err r → 0 < number_of r
+refused_number s r e = omega (arith, number_some r)
 
 -- a whole frame of n bytes of payload at the start of s
 pub record IsFrame (n : ℕ) (s : List ℕ) : Type 0 where
@@ -46,7 +40,7 @@ pub record IsFrame (n : ℕ) (s : List ℕ) : Type 0 where
   pub there : length (payload_of n s) ≡ n
   pub bytes : s ≡ identifier ++ (little_bytes 4 n ++ (payload_of n s ++ drop (12 + n) s))
 
-module _ (s : List ℕ) (n : ℕ) (e : framed_of s ≡ Whole n) where
+module _ (s : List ℕ) (n : ℕ) (e : framed_of s ≡ Ok n) where
   passed : (agrees identifier s ≡ true) × (ltb (length s) 12 ≡ false) × (is_size (size_of s) ≡ true) × (ltb (length s) (12 + size_of s) ≡ false) × (size_of s ≡ n)
   unfolding framed_of
   passed =
@@ -102,7 +96,7 @@ module _ (p t : List ℕ) (some : 1 ≤ length p) (small : length p ≤ 4096) wh
   unfolding identifier
   long = omega (arith, length-append (little_bytes 4 (length p)) (p ++ t), length-append p t, length_little 4 (length p))
 
-  pub is_whole : framed_of (identifier ++ (little_bytes 4 (length p) ++ (p ++ t))) ≡ Whole (length p)
+  pub is_whole : framed_of (identifier ++ (little_bytes 4 (length p) ++ (p ++ t))) ≡ Ok (length p)
   unfolding framed_of
   is_whole =
       let l = long in

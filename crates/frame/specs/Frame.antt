@@ -1,9 +1,10 @@
 -- Document 01, "Frame": eight bytes 4D 49 4F 54 59 42 30 31, four bytes payload size, little endian, payload.
-use Rattle.std.specs.Prelude.{ℕ, ◌+◌}
+use Rattle.std.specs.Prelude.{ℕ, ◌+◌, Result, Ok, Err}
 use mathlib.Core.{Bool.Bool, Bool.true, Bool.false, List.List, List.[], List.◌∷◌}
 use lib.{Dec.ltb, Dec.eqb, ListN.length, ListN.take, ListN.drop}
 use Rattle.octets.specs.{Choice.either, Number.little_at, Size.is_size}
-use Rattle.frame.specs.declared.Framed.{Framed, TheVariants.Whole, TheVariants.Refused}
+use Rattle.refusal.specs.Number.{number_of}
+use Rattle.refusal.specs.declared.Refusal.{Refusal, TheVariants.FrameIncomplete, TheVariants.FrameIdentifier, TheVariants.Size}
 
 unfoldable pub identifier : List ℕ
 identifier = 0x4D ∷ 0x49 ∷ 0x4F ∷ 0x54 ∷ 0x59 ∷ 0x42 ∷ 0x30 ∷ 0x31 ∷ []
@@ -18,15 +19,19 @@ agrees (b ∷ bs) (x ∷ s) = either (eqb b x) (λ _. agrees bs s) (λ _. false)
 abbrev pub size_of : List ℕ → ℕ
 size_of s = little_at s 8 4
 
--- the identifier on the bytes present (2), then whether 12 are there (1), the size (3), the whole frame (1)
+-- the size of a whole frame's payload, or what is refused
+abbrev pub Framed : Type 0
+Framed = Result ℕ Refusal
+
+-- the identifier on the bytes present, then whether 12 are there, the size, the whole frame
 unfoldable pub framed_of : List ℕ → Framed
 framed_of s =
     either (agrees identifier s)
-    (λ _. either (ltb (length s) 12) (λ _. Refused 1)
+    (λ _. either (ltb (length s) 12) (λ _. Err FrameIncomplete)
     (λ _. either (is_size (size_of s))
-    (λ _. either (ltb (length s) (12 + size_of s)) (λ _. Refused 1) (λ _. Whole (size_of s)))
-    (λ _. Refused 3)))
-    (λ _. Refused 2)
+    (λ _. either (ltb (length s) (12 + size_of s)) (λ _. Err FrameIncomplete) (λ _. Ok (size_of s)))
+    (λ _. Err Size)))
+    (λ _. Err FrameIdentifier)
 
 -- the payload of a frame that is whole: that part of the input
 abbrev pub payload_of : ℕ → List ℕ → List ℕ
@@ -34,9 +39,9 @@ payload_of size s = take size (drop 12 s)
 
 -- document 01's number and the bytes used of each answer
 abbrev pub frame_refusal : Framed → ℕ
-frame_refusal (Whole n) = 0
-frame_refusal (Refused k) = k
+frame_refusal (Ok n) = 0
+frame_refusal (Err e) = number_of e
 
 abbrev pub used_of : Framed → ℕ
-used_of (Whole n) = 12 + n
-used_of (Refused k) = 0
+used_of (Ok n) = 12 + n
+used_of (Err e) = 0

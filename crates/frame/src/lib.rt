@@ -4,7 +4,7 @@
 ghost use Rattle.std.specs.Prelude.{◌≡◌};
 ghost use Rattle.frame.specs.Frame.{identifier, agrees, framed_of, payload_of};
 
-use octets::refusals;
+use refusal::Refusal;
 
 // A frame's identifier, eight bytes as one number, and its size, four bytes, stand in front of its payload.
 pub const IDENTIFIER: u64 = 0x4D49_4F54_5942_3031;
@@ -14,45 +14,37 @@ const FIRST_SEVEN: u64 = 0x4D_494F_5459_4230;
 
 pub const HEAD: usize = 12;
 
-// A whole frame and its payload's size, or document 01's refusal 1, 2 or 3.
-#[derive(Clone, Copy)]
-pub enum Framed {
-    Whole(usize),
-    Refused(u8),
-}
-
-// What stands at the start of the input: any input, also empty, also longer than a frame.
-pub fn read(s: &[u8]) -> Framed
+// The size of the payload of a whole frame at the start of the input: any input, also empty, also longer than a frame.
+#[tactic(auto, using(crate::proofs::Answers::answers))]
+pub fn read(s: &[u8]) -> Result<usize, Refusal>
     ensures { result ≡ framed_of s.now }
 {
     if !agrees(s) {
-        return Framed::Refused(refusals::FRAME_IDENTIFIER);
+        return Err(Refusal::FrameIdentifier);
     }
     if s.len() < HEAD {
-        return Framed::Refused(refusals::FRAME_INCOMPLETE);
+        return Err(Refusal::FrameIncomplete);
     }
     let n = octets::little_at(s, 8, 4) as usize;
     if !octets::is_size(n) {
-        return Framed::Refused(refusals::SIZE);
+        return Err(Refusal::Size);
     }
     if s.len() - HEAD < n {
-        return Framed::Refused(refusals::FRAME_INCOMPLETE);
+        return Err(Refusal::FrameIncomplete);
     }
-    Framed::Whole(n)
+    Ok(n)
 }
 
 // The payload of a frame whose size is known: that part of the input, not a copy.
+#[tactic(auto, using(crate::proofs::Answers::parts))]
 pub fn payload(s: &[u8], size: usize) -> &[u8]
     ensures { result.now ≡ payload_of size s.now }
 {
     if s.len() < HEAD {
-        return &s[..0];
+        return &[];
     }
-    if s.len() - HEAD < size {
-        return &s[HEAD..];
-    }
-    let e = HEAD + size;
-    &s[HEAD..e]
+    let rest = &s[HEAD..];
+    &rest[..size.min(rest.len())]
 }
 
 // No byte that is there differs from the identifier's: both are compared as numbers, of eight bytes or of as many as are there.

@@ -8,8 +8,9 @@ use native.Mathlib.Omega.{arith}
 use lib.{Dec.eqb, ListN.length, ListN.length-append}
 use borrow.Author.Tests.{ne_eqb, eqb-true, eqb-false}
 use Rattle.octets.proofs.Ranges.{true_false}
-use Rattle.frame.specs.declared.Framed.{Framed, TheVariants.Whole, TheVariants.Refused}
-use Rattle.frame.specs.Frame.{identifier, agrees, size_of, framed_of, payload_of, used_of, frame_refusal}
+use Rattle.std.specs.Prelude.{Ok, Err}
+use Rattle.refusal.specs.Number.{number_of}
+use Rattle.frame.specs.Frame.{Framed, identifier, agrees, size_of, framed_of, payload_of, used_of, frame_refusal}
 use Rattle.frame.proofs.{Format.refused_number, Format.whole_size, Used.used_within}
 use Rattle.record.specs.{declared.Told.Told, Meant.refused_at}
 use Rattle.turns.{specs.Turns.Turn, proofs.Steady.Steady}
@@ -25,19 +26,19 @@ empty_waits = refl
 
 -- a frame that is not refused
 module _ (s : List ℕ) (z : frame_refusal (framed_of s) ≡ 0) where
-  whole_framed : framed_of s ≡ Whole (size_of s)
+  whole_framed : framed_of s ≡ Ok (size_of s)
   whole_framed = go (framed_of s) refl
     where
-      go : (f : Framed) → framed_of s ≡ f → framed_of s ≡ Whole (size_of s)
-      go (Whole k) e = e ∙ ap Whole (sym (whole_size s k e))
-      go (Refused k) e = let i : k ≡ 0 = sym (ap frame_refusal e) ∙ z in absurd (omega (arith, refused_number s k e))
+      go : (f : Framed) → framed_of s ≡ f → framed_of s ≡ Ok (size_of s)
+      go (Ok k) e = e ∙ ap Ok (sym (whole_size s k e))
+      go (Err k) e = let i : number_of k ≡ 0 = sym (ap frame_refusal e) ∙ z in absurd (omega (arith, refused_number s k e))
 
   pub uses_some : used_of (framed_of s) ≡ 0 → ⊥
   uses_some y = omega (arith, ap used_of whole_framed)
 
 uses_none : (f : Framed) → (frame_refusal f ≡ 0 → ⊥) → 0 ≡ used_of f
-uses_none (Whole k) z = absurd (z refl)
-uses_none (Refused k) z = refl
+uses_none (Ok k) z = absurd (z refl)
+uses_none (Err k) z = refl
 
 -- what a turn prints: a line, nothing yet, the end, or a stop
 pub data Way : Bool → ℕ → List ℕ → Turn ℕ → Type 0 where

@@ -10,7 +10,8 @@ use lib.ListN.{length, take, drop, length-append, length-drop, get_or-append}
 use borrow.Author.Tests.{lt-ltb, le-ltb, ltb-true, ltb-false}
 use Rattle.octets.specs.{Choice.either, Size.is_size}
 use Rattle.octets.proofs.{Ranges.true_false, Sizes.sized_most, Places.same_little}
-use Rattle.frame.specs.declared.Framed.TheVariants.{Whole, Refused}
+use Rattle.std.specs.Prelude.{Ok, Err}
+use Rattle.refusal.specs.declared.Refusal.{TheVariants.FrameIncomplete, TheVariants.FrameIdentifier, TheVariants.Size}
 use Rattle.frame.specs.Frame.{identifier, agrees, framed_of, payload_of, size_of}
 use Rattle.frame.proofs.Format.{whole_size, fits}
 
@@ -42,7 +43,7 @@ module _ (a b : List ℕ) where
   strange_stays e = simp (strange_more identifier a b e, e)
 
   module _ (e : agrees identifier a ≡ true) where
-    short_waits : length a < 12 → framed_of a ≡ Refused 1
+    short_waits : length a < 12 → framed_of a ≡ Err FrameIncomplete
     unfolding framed_of
     short_waits h = simp (e, lt-ltb (length a) 12 h)
 
@@ -64,7 +65,7 @@ module _ (a b : List ℕ) where
           simp (agrees_both, e, le-ltb (length a) 12 h, le-ltb (length (a ++ b)) 12 (omega arith), size_both, w)
 
       module _ (w : is_size (size_of a) ≡ true) where
-        cut_waits : length a < 12 + size_of a → framed_of a ≡ Refused 1
+        cut_waits : length a < 12 + size_of a → framed_of a ≡ Err FrameIncomplete
         unfolding framed_of
         cut_waits l = simp (e, le-ltb (length a) 12 h, w, lt-ltb (length a) (12 + size_of a) l)
 
@@ -74,7 +75,7 @@ module _ (a b : List ℕ) where
             let l = long in
             simp (agrees_both, e, le-ltb (length a) 12 h, le-ltb (length (a ++ b)) 12 (omega arith), size_both, w, le-ltb (length a) (12 + size_of a) g, le-ltb (length (a ++ b)) (12 + size_of a) (omega arith))
 
-  pub straddles : (framed_of a ≡ Refused 1 → ⊥) → framed_of (a ++ b) ≡ framed_of a
+  pub straddles : (framed_of a ≡ Err FrameIncomplete → ⊥) → framed_of (a ++ b) ≡ framed_of a
   straddles f = by_identifier (agrees identifier a) refl
     where
       by_whole : (e : agrees identifier a ≡ true) (h : 12 ≤ length a) (w : is_size (size_of a) ≡ true) (t : Bool) → ltb (length a) (12 + size_of a) ≡ t → framed_of (a ++ b) ≡ framed_of a
@@ -94,7 +95,7 @@ module _ (a b : List ℕ) where
       by_identifier true e = by_length e (ltb (length a) 12) refl
 
   -- and its payload
-  pub payload_straddles : (n : ℕ) → framed_of a ≡ Whole n → framed_of (a ++ b) ≡ framed_of a → payload_of (size_of (a ++ b)) (a ++ b) ≡ payload_of (size_of a) a
+  pub payload_straddles : (n : ℕ) → framed_of a ≡ Ok n → framed_of (a ++ b) ≡ framed_of a → payload_of (size_of (a ++ b)) (a ++ b) ≡ payload_of (size_of a) a
   payload_straddles n e q =
       ap (λ (k : ℕ). payload_of k (a ++ b)) (whole_size (a ++ b) n (q ∙ e))
       ∙ ap (take n) (drop-append-le 12 a b (omega (arith, fits a n e)))
@@ -102,14 +103,14 @@ module _ (a b : List ℕ) where
       ∙ ap (λ (k : ℕ). payload_of k a) (sym (whole_size a n e))
 
 -- with 4,108 bytes at hand no frame is incomplete
-tests_complete : (a b c d : Bool) (m : ℕ) → b ≡ false → (c ≡ true → d ≡ false) → either a (λ _. either b (λ _. Refused 1) (λ _. either c (λ _. either d (λ _. Refused 1) (λ _. Whole m)) (λ _. Refused 3))) (λ _. Refused 2) ≡ Refused 1 → ⊥
-tests_complete false b c d m p q e = let z : ◌≡◌ {A = ℕ} 1 2 = cc in omega arith
+tests_complete : (a b c d : Bool) (m : ℕ) → b ≡ false → (c ≡ true → d ≡ false) → either a (λ _. either b (λ _. Err FrameIncomplete) (λ _. either c (λ _. either d (λ _. Err FrameIncomplete) (λ _. Ok m)) (λ _. Err Size))) (λ _. Err FrameIdentifier) ≡ Err FrameIncomplete → ⊥
+tests_complete false b c d m p q e = cc
 tests_complete true true c d m p q e = true_false p
-tests_complete true false false d m p q e = let z : ◌≡◌ {A = ℕ} 1 3 = cc in omega arith
+tests_complete true false false d m p q e = cc
 tests_complete true false true true m p q e = true_false (q refl)
-tests_complete true false true false m p q e = let z : ◌≡◌ {A = ℕ} 0 1 = cc in omega arith
+tests_complete true false true false m p q e = cc
 
-pub enough : (s : List ℕ) → 4108 ≤ length s → framed_of s ≡ Refused 1 → ⊥
+pub enough : (s : List ℕ) → 4108 ≤ length s → framed_of s ≡ Err FrameIncomplete → ⊥
 unfolding framed_of
 enough s h e =
     tests_complete (agrees identifier s) (ltb (length s) 12) (is_size (size_of s)) (ltb (length s) (12 + size_of s)) (size_of s)

@@ -1,21 +1,12 @@
--- A payload's size: the code's two tests, and what is known of a size that passed. Assumes nothing.
-use mathlib.Core.{Path.◌≡◌, Path.sym, Bool.true, Bool.false}
+-- A payload's size: what is known of a size that passed. Assumes nothing.
+use mathlib.Core.{Path.◌≡◌, Path.sym, Bool.true}
 use Prim.Native.Nat.{ℕ, ◌≤◌, ◌<◌}
-use native.Mathlib.Omega.{arith}
 use lib.Dec.{leb, leb→le}
-use borrow.Author.Tests.{le-leb, lt-leb}
+use borrow.Author.Tests.{le-leb}
 use Rattle.octets.specs.Size.{is_size}
 use Rattle.octets.proofs.Ranges.{true_is, both_left, both_right}
 
 module _ (n : ℕ) where
-  pub size_none : n ≡ 0 → false ≡ is_size n
-  unfolding is_size
-  size_none e = sym (simp (lt-leb 1 n (omega arith)))
-
-  pub size_some : (n ≡ 0 → ⊥) → leb n 4096 ≡ is_size n
-  unfolding is_size
-  size_some f = sym (simp (le-leb 1 n (omega arith)))
-
   pub size_is : 1 ≤ n → n ≤ 4096 → is_size n ≡ true
   unfolding is_size
   size_is f g = simp (le-leb 1 n f, le-leb n 4096 g)

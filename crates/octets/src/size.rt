@@ -5,11 +5,9 @@ ghost use Rattle.octets.specs.Size.{is_size};
 pub const MOST_PAYLOAD: usize = 4096;
 
 // A payload may have n bytes.
+#[tactic(auto, unfolding(crate::specs::Size::is_size))]
 pub fn is_size(n: usize) -> bool
     ensures { result ≡ is_size n }
 {
-    if n == 0 {
-        return false;
-    }
-    n <= MOST_PAYLOAD
+    1 <= n && n <= MOST_PAYLOAD
 }

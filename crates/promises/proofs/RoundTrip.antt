@@ -10,7 +10,7 @@ use borrow.Author.Tests.{le-leb, leb-true}
 use Rattle.octets.specs.{Choice.either, Bytes.IsBytes, Bytes.little_bytes, Bytes.put_at}
 use Rattle.octets.proofs.{Ranges.is_true, Digits.length_little, Writing.put_in}
 use Rattle.element.specs.Tree.{count_of}
-use Rattle.frame.specs.declared.Framed.TheVariants as frame
+use Rattle.std.specs.Prelude.{Ok}
 use Rattle.frame.specs.Frame.{identifier, framed_of, payload_of, used_of}
 use Rattle.frame.proofs.Format.{is_whole, is_payload}
 use Rattle.saying.specs.Written.{frame_of}
@@ -58,7 +58,7 @@ module _ (m : Message) (d room : List ℕ) (fit : fits m d ≡ true) (enough : l
       ∙ append_assoc identifier (little_bytes 4 (length payload) ++ payload) rest
       ∙ ap (λ (l : List ℕ). identifier ++ l) (append_assoc (little_bytes 4 (length payload)) payload rest)
 
-  whole : framed_of (put_at room 0 (frame_for m d)) ≡ frame.Whole (length payload)
+  whole : framed_of (put_at room 0 (frame_for m d)) ≡ Ok (length payload)
   whole = ap framed_of opened ∙ is_whole payload rest (payload_some m d fit) (omega (arith, short))
 
   part : payload_of (length payload) (put_at room 0 (frame_for m d)) ≡ payload

@@ -5,13 +5,13 @@ use Prim.Native.Nat.{ℕ, max, ◌+◌, ◌-◌, ◌/◌, ◌^◌, ◌≤◌, �
 use native.Mathlib.Omega.{arith}
 use lib.ListN.{length, get_or, replicate}
 use borrow.Author.Tests.{lt-ltb, le-ltb, eq-eqb, ne_eqb}
-use Rattle.std.specs.Prelude.{Ok, Err}
-use Rattle.refusal.specs.{Number.number_of, declared.Broken.Broken, declared.Refusal.TheVariants.Size}
+use Rattle.std.specs.Prelude.{Result, Ok, Err, IsErrAnd}
+use Rattle.refusal.specs.declared.{Broken.Broken, Refusal.Refusal}
+use Rattle.refusal.specs.declared.Refusal.TheVariants as refusal
 use Rattle.octets.specs.{Choice.either, Size.is_size, Bytes.put_at}
 use Rattle.element.specs.declared.Next.{Next}
 use Rattle.element.specs.Form.{Role, Step, element_of}
-use Rattle.frame.specs.declared.Framed.{Framed, TheVariants.Whole, TheVariants.Refused}
-use Rattle.frame.specs.Frame.{framed_of, payload_of}
+use Rattle.frame.specs.Frame.{Framed, framed_of, payload_of}
 use Rattle.frame.proofs.Format.{fits}
 use Rattle.field.specs.Cell.{Cell}
 use Rattle.message.specs.{Fields.fields_of, Reading.gravest, Reading.crossed, Code.Cells.cells_at, Code.Cells.places_of, Code.Cells.command_at}
@@ -19,13 +19,20 @@ use Rattle.notes.specs.declared.Noted.{Noted}
 use Rattle.notes.specs.Code.Noted.{broken_at, opened_of, noted_of}
 use Rattle.bodies.specs.declared.Graded.{Graded}
 use Rattle.bodies.specs.Code.Read.{Read, look_for, read_of}
-use Rattle.record.specs.declared.{Message.Message, Told.Told}
-use Rattle.record.specs.{Record.message_of, Record.data_of, Reading.reading_unless, Code.Places.reading_at, Code.Places.answer_by, Code.Places.answer_at}
-use Rattle.record.specs.Meant.{Answered, refused_at, refuses, answer_of, lent_size, Meant}
+use Rattle.record.specs.declared.{Message.Message, Counted.Counted}
+use Rattle.record.specs.{Record.message_of, Record.data_of, Reading.refusal_of, Reading.reading_unless, Code.Places.reading_at, Code.Places.answer_by, Code.Places.answer_at}
+use Rattle.record.specs.Meant.{Answered, breaks, refuses, answer_of, lent_size, Meant}
 use Rattle.record.proofs.Answered.{answer_meant}
 use Rattle.reading.specs.Code.Ways.{Enters, lent_after, fields_by, named_by, stepped_by}
 use Rattle.reading.specs.Framed.{MeantFramed}
 use Rattle.reading.proofs.{Lending.enters, Lending.lent_is, Framing.refused_meant, Framing.whole_meant}
+
+abbrev Told : Type 0
+Told = Result Counted Broken
+
+-- a refusal that no byte's place belongs to
+abbrev refused : Refusal → Told
+refused r = Err (record { refusal = r; place = 0 })
 
 -- what is told, and the lent bytes afterwards
 abbrev answer : Told → List ℕ → Answered
@@ -48,21 +55,20 @@ module _ (s places : List ℕ) (c : ℕ) (g : Graded) (user : List ℕ) (eg : �
   unfolding fields_by
   by_worst = ap (λ (n : ℕ). answer_of count d (reading_unless n (message_of c look) (data_of c look))) worst_is
 
-  pub fields_refused : (n : ℕ) (t : Told) → (g.worst ≡ 0 → ⊥) → n ≡ 16 - g.worst / 64 → t ≡ refused_at n 0 → answer t d ≡ fields_by s places c count d
-  fields_refused n t z e q =
-      ap (λ (y : Told). answer y d) (q ∙ ap (λ (k : ℕ). refused_at k 0) e) ∙ (simp (ne_eqb g.worst 0 z) at by_worst)
+  pub fields_refused : (n : Refusal) (t : Told) → (g.worst ≡ 0 → ⊥) → n ≡ refusal_of (g.worst / 64) → t ≡ refused n → answer t d ≡ fields_by s places c count d
+  fields_refused n t z e q = ap (λ (y : Told). answer y d) (q ∙ ap refused e) ∙ (simp (ne_eqb g.worst 0 z) at by_worst)
 
   pub fields_enter : (m : Message) → m ≡ g.message → Enters s places m.body
   fields_enter m e = subst (λ (x : Message). Enters s places x.body) (sym (e ∙ message_is)) (enters s places d c)
 
   pub fields_read : (l : List ℕ) → g.worst ≡ 0 → l ≡ lent_after s places g.message.body user d
-      → answer (record { refusal = 0; place = 0; count = count; message = g.message }) l ≡ fields_by s places c count d
+      → answer (Ok (record { count = count; message = g.message })) l ≡ fields_by s places c count d
   unfolding read_of
   fields_read l z e =
       let a : l ≡ put_at d 0 (data_of c look) =
       e ∙ ap (λ (x : Read). lent_after s places x.graded.message.body x.user d) eg
       ∙ lent_is s places d c (omega (arith, worst_is)) in
-      ap₂ (λ (y : Message) (v : List ℕ). answer (record { refusal = 0; place = 0; count = count; message = y }) v) message_is a ∙ (rw z at by_worst)
+      ap₂ (λ (y : Message) (v : List ℕ). answer (Ok (record { count = count; message = y })) v) message_is a ∙ (rw z at by_worst)
 
 -- the command
 module _ (s places : List ℕ) (count : ℕ) (d : List ℕ) (k : ℕ) (is_number : k ≡ command_at s (get_or places 0 0)) where
@@ -71,24 +77,25 @@ module _ (s places : List ℕ) (count : ℕ) (d : List ℕ) (k : ℕ) (is_number
   named_known a h e = e ∙ sym (rw (← is_number) (simp (lt-ltb k 24 h)))
 
   module _ (t : Told) (h : 24 ≤ k) where
-    pub named_other : k ≡ 24 → t ≡ refused_at 12 0 → answer t d ≡ named_by s places count d
+    pub named_other : k ≡ 24 → t ≡ refused refusal.UnknownCommand → answer t d ≡ named_by s places count d
     unfolding named_by reading_at
     named_other z e = ap (λ (y : Told). answer y d) e ∙ sym (rw (← is_number) (simp (le-ltb k 24 h, eq-eqb k 24 z)))
 
-    pub named_none : (k ≡ 24 → ⊥) → t ≡ refused_at 11 0 → answer t d ≡ named_by s places count d
+    pub named_none : (k ≡ 24 → ⊥) → t ≡ refused refusal.NoCommand → answer t d ≡ named_by s places count d
     unfolding named_by reading_at
     named_none z e = ap (λ (y : Told). answer y d) e ∙ sym (rw (← is_number) (simp (le-ltb k 24 h, ne_eqb k 24 z)))
 
 -- the walk's answer
 module _ (s places d : List ℕ) (x : Step) where
-  pub stepped_broken : (t : Told) (b : Broken) (n : ℕ) → x ≡ Err b → n ≡ number_of b.refusal → t ≡ refused_at n b.place → answer t d ≡ stepped_by s places d x
+  pub stepped_broken : (t : Told) (b : Broken) → x ≡ Err b → IsErrAnd t (λ y. y ≡ b) → answer t d ≡ stepped_by s places d x
   unfolding stepped_by
-  stepped_broken t b n h i e = ap (λ (y : Told). answer y d) (rw i at e) ∙ sym (rw h)
+  stepped_broken (Ok y) b h e = absurd e
+  stepped_broken (Err y) b h e = ap (λ (z : Broken). answer (Err z) d) e ∙ sym (rw h)
 
   module _ (n : Next) (h : x ≡ Ok n) where
-    pub stepped_more : (t : Told) → n.at < length s → t ≡ refused_at 10 n.at → answer t d ≡ stepped_by s places d x
+    pub stepped_more : n.at < length s → breaks (record { refusal = refusal.LeftOver; place = n.at }) d ≡ stepped_by s places d x
     unfolding stepped_by
-    stepped_more t l e = ap (λ (y : Told). answer y d) e ∙ sym (rw h (simp (lt-ltb n.at (length s) l)))
+    stepped_more l = sym (rw h (simp (lt-ltb n.at (length s) l)))
 
     pub stepped_named : (a : Answered) → length s ≤ n.at → a ≡ named_by s places n.count d → a ≡ stepped_by s places d x
     unfolding stepped_by
@@ -107,13 +114,13 @@ unfolding stepped_by answer_at noted_of opened_of
 noted_answer s d l = simp (le-ltb (length d) lent_size l) (go (is_size (length s)))
   where
     go : (a : Bool)
-        → stepped_by s (either a (λ _. opened_of s) (λ _. broken_at Size)).places d (either a (λ _. opened_of s) (λ _. broken_at Size)).step
-        ≡ either a (λ _. answer_by s d (element_of s 8 Role.outer 0 0)) (λ _. refuses 3 0 d)
+        → stepped_by s (either a (λ _. opened_of s) (λ _. broken_at refusal.Size)).places d (either a (λ _. opened_of s) (λ _. broken_at refusal.Size)).step
+        ≡ either a (λ _. answer_by s d (element_of s 8 Role.outer 0 0)) (λ _. refuses refusal.Size d)
     go true = step_answer s d (element_of s 8 Role.outer 0 0)
     go false = refl
 
 module _ (s d : List ℕ) where
-  pub read_short : (t : Told) → length d < lent_size → t ≡ refused_at 15 0 → Meant s d (answer t d)
+  pub read_short : (t : Told) → length d < lent_size → t ≡ refused refusal.Invalid → Meant s d (answer t d)
   unfolding answer_at
   read_short t l e =
       let q : answer_at s d ≡ answer t d = simp (lt-ltb (length d) lent_size l) (ap (λ (y : Told). answer y d) (sym e)) in
@@ -125,11 +132,11 @@ module _ (s d : List ℕ) where
       rw q at (answer_meant s d)
 
 -- the frame
-module _ (s d : List ℕ) (f : Framed) (e : f ≡ framed_of s) (n : ℕ) where
-  pub framed_refused : (t : Told) → f ≡ Refused n → t ≡ refused_at n 0 → MeantFramed s d (record { used = 0; told = t }) d
-  framed_refused t h q = refused_meant s d n (sym e ∙ h) t q
+module _ (s d : List ℕ) (f : Framed) (e : f ≡ framed_of s) where
+  pub framed_refused : (k : Refusal) (t : Told) → f ≡ Err k → t ≡ refused k → MeantFramed s d (record { used = 0; told = t }) d
+  framed_refused k t h q = refused_meant s d k (sym e ∙ h) t q
 
-  module _ (h : f ≡ Whole n) where
+  module _ (n : ℕ) (h : f ≡ Ok n) where
     pub framed_whole : (p : List ℕ) (t : Told) (l : List ℕ) → p ≡ payload_of n s → Meant p d (answer t l) → MeantFramed s d (record { used = 12 + n; told = t }) l
     framed_whole p t l q m = whole_meant s d n (sym e ∙ h) t l (subst (λ (y : List ℕ). Meant y d (answer t l)) q m)
 

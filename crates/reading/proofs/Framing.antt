@@ -1,45 +1,29 @@
--- What is meant by the bytes that arrived, by the frame's answer: each of its two cases says which part of the statement speaks, since no refusal
--- has the number 0. Assumes nothing.
+-- What is meant by the bytes that arrived, by the frame's answer: each of its two cases says which part of the statement speaks. Assumes nothing.
 use mathlib.Core.Path.{◌≡◌, sym, ap, subst, ◌∙◌}
 use mathlib.Core.List.{List}
 use Prim.Native.Nat.{ℕ, ◌+◌}
-use native.Mathlib.Omega.{arith}
-use Rattle.frame.specs.declared.Framed.{Framed, TheVariants.Whole, TheVariants.Refused}
-use Rattle.frame.specs.Frame.{size_of, framed_of, payload_of, frame_refusal, used_of}
-use Rattle.frame.proofs.Format.{refused_number, whole_size}
-use Rattle.record.specs.declared.Told.{Told}
-use Rattle.record.specs.Meant.{refused_at, refuses, Meant}
+use Rattle.std.specs.Prelude.{Result, Ok, Err}
+use Rattle.refusal.specs.declared.{Broken.Broken, Refusal.Refusal}
+use Rattle.frame.specs.Frame.{Framed, framed_of, payload_of, used_of}
+use Rattle.record.specs.declared.Counted.{Counted}
+use Rattle.record.specs.Meant.{refuses, Meant}
 use Rattle.reading.specs.declared.Unframed.{Unframed}
 use Rattle.reading.specs.Framed.{answer_in, MeantFramed}
 
-module _ (s d : List ℕ) (k : ℕ) where
-  module _ (e : framed_of s ≡ Refused k) where
-    not_whole : frame_refusal (framed_of s) ≡ 0 → ⊥
-    not_whole z = let i : k ≡ 0 = sym (ap frame_refusal e) ∙ z in let h = refused_number s k e in omega arith
-
-    same_refusal : refuses (frame_refusal (framed_of s)) 0 d ≡ refuses k 0 d
-    same_refusal = ap (λ (x : Framed). refuses (frame_refusal x) 0 d) e
-
-    pub refused_meant : (t : Told) → t ≡ refused_at k 0 → MeantFramed s d (record { used = 0; told = t }) d
+module _ (s d : List ℕ) where
+  module _ (k : Refusal) (e : framed_of s ≡ Err k) where
+    pub refused_meant : (t : Result Counted Broken) → t ≡ Err (record { refusal = k; place = 0 }) → MeantFramed s d (record { used = 0; told = t }) d
     refused_meant t q = record {
       used = sym (ap used_of e);
-      refused = λ z. ap (λ (x : Told). record { told = x; lent = d }) q ∙ sym same_refusal;
-      whole = λ z. absurd (not_whole z);
+      refused = λ j f. let same : k ≡ j = cc (sym e ∙ f) in ap (λ (x : Result Counted Broken). record { told = x; lent = d }) q ∙ ap (λ (x : Refusal). refuses x d) same;
+      whole = λ n f. absurd (cc (sym e ∙ f));
     }
 
-    pub refused_told : (r : Unframed) (l : List ℕ) → MeantFramed s d r l → answer_in r l ≡ refuses k 0 d
-    refused_told r l m = m.refused not_whole ∙ same_refusal
-
-  module _ (e : framed_of s ≡ Whole k) where
-    same_payload : payload_of (size_of s) s ≡ payload_of k s
-    same_payload = ap (λ (n : ℕ). payload_of n s) (whole_size s k e)
-
-    pub whole_meant : (t : Told) (l : List ℕ) → Meant (payload_of k s) d (record { told = t; lent = l }) → MeantFramed s d (record { used = 12 + k; told = t }) l
+  module _ (k : ℕ) (e : framed_of s ≡ Ok k) where
+    pub whole_meant : (t : Result Counted Broken) (l : List ℕ) → Meant (payload_of k s) d (record { told = t; lent = l })
+        → MeantFramed s d (record { used = 12 + k; told = t }) l
     whole_meant t l m = record {
       used = sym (ap used_of e);
-      refused = λ z. absurd (z (ap frame_refusal e));
-      whole = λ z. subst (λ (p : List ℕ). Meant p d (record { told = t; lent = l })) (sym same_payload) m;
+      refused = λ j f. absurd (cc (sym e ∙ f));
+      whole = λ n f. let same : k ≡ n = cc (sym e ∙ f) in subst (λ (x : ℕ). Meant (payload_of x s) d (record { told = t; lent = l })) same m;
     }
-
-    pub whole_told : (r : Unframed) (l : List ℕ) → MeantFramed s d r l → Meant (payload_of k s) d (answer_in r l)
-    whole_told r l m = subst (λ (p : List ℕ). Meant p d (answer_in r l)) same_payload (m.whole (ap frame_refusal e))

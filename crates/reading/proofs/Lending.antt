@@ -136,8 +136,9 @@ module _ (user : List ℕ) (w n : ℕ) (e : n ≡ min w (length user)) where
           let l : length user < w = leb-false w (length user) h in
           take_all n user (omega arith) ∙ sym (take_all w user (omega arith))
 
-  pub first_put : (d out : List ℕ) (r : ℕ) → ◌≡◌ {A = Put} (put out r) (put_parts (take n user ∷ []) (put d 0)) → out ≡ put_at d 0 (take w user)
-  first_put d out r q = put_run_is (take n user) d out r q ∙ ap (put_at d 0) few_are
+  pub first_put : (v : ℕ) → w ≡ v → (d out : List ℕ) (r : ℕ) → ◌≡◌ {A = Put} (put out r) (put_parts (take n user ∷ []) (put d 0))
+      → out ≡ put_at d 0 (take v user)
+  first_put v z d out r q = put_run_is (take n user) d out r q ∙ ap (put_at d 0) (few_are ∙ ap (λ k. take k user) z)
 
 pub ruleset firsts = (few_taken, first_put)
 

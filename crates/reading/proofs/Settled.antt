@@ -4,15 +4,15 @@ use mathlib.Core.List.{List}
 use Prim.Native.Nat.{ℕ, ◌≤◌}
 use lib.ListN.{length}
 use Rattle.element.specs.{Tree.Tree, Tree.count_of, Tree.Payload, Meaning.meaning_of}
-use Rattle.frame.specs.declared.Framed.{Framed, TheVariants.Whole, TheVariants.Refused}
-use Rattle.frame.specs.Frame.{framed_of, payload_of}
+use Rattle.std.specs.Prelude.{Ok, Err}
+use Rattle.refusal.specs.declared.Refusal.{Refusal}
+use Rattle.frame.specs.Frame.{Framed, framed_of, payload_of}
 use Rattle.message.specs.Reading.{outer_of}
 use Rattle.record.specs.Reading.{reading_of}
 use Rattle.record.specs.Meant.{Answered, answer_of, lent_size, Meant}
 use Rattle.record.proofs.Answers.{one_answer}
 use Rattle.reading.specs.declared.Unframed.{Unframed}
 use Rattle.reading.specs.Framed.{answer_in, MeantFramed}
-use Rattle.reading.proofs.Framing.{refused_told, whole_told}
 
 module _ (s d : List ℕ) where
   pub read_settled : (r q : Answered) → Meant s d r → Meant s d q → r ≡ q
@@ -28,8 +28,8 @@ module _ (s d : List ℕ) where
     same_answer = go (framed_of s) refl
       where
         go : (x : Framed) → framed_of s ≡ x → answer_in r e ≡ answer_in q f
-        go (Refused k) h = refused_told s d k h r e m ∙ sym (refused_told s d k h q f n)
-        go (Whole k) h = one_answer (payload_of k s) d (answer_in r e) (answer_in q f) (whole_told s d k h r e m) (whole_told s d k h q f n)
+        go (Err k) h = m.refused k h ∙ sym (n.refused k h)
+        go (Ok k) h = one_answer (payload_of k s) d (answer_in r e) (answer_in q f) (m.whole k h) (n.whole k h)
 
     pub read_framed_settled : (r ≡ q) × (e ≡ f)
     read_framed_settled =

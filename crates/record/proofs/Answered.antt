@@ -7,18 +7,18 @@ use native.Mathlib.Omega.{arith}
 use lib.{Dec.ltb, Dec.lit<, ListN.length, ListN.get_or}
 use borrow.Author.Tests.{lt-ltb, le-ltb, eq-eqb, ltb-false}
 use Rattle.std.specs.Prelude.{Ok, Err}
-use Rattle.refusal.specs.{Number.number_of, declared.Broken.Broken, declared.Refusal.TheVariants.Size, declared.Refusal.TheVariants.LeftOver}
+use Rattle.refusal.specs.declared.{Broken.Broken, Refusal.TheVariants.Size, Refusal.TheVariants.LeftOver}
 use Rattle.octets.specs.{Choice.either, Size.is_size}
-use Rattle.element.specs.Form.{Role, Step, Walked, broken, element_of, ended, walk_of, walk_refusal, walk_place}
+use Rattle.element.specs.Form.{Role, Step, Walked, broken, element_of, ended, walk_of}
 use Rattle.element.specs.{Tree.count_of, Meaning.Fields, Meaning.meaning_of}
-use Rattle.element.proofs.{Whole.tree_whole, Numbered.break_number}
+use Rattle.element.proofs.Whole.{tree_whole}
 use Rattle.names.specs.{Names.bytes, Names.name_at, Names.command_of, Code.Slots.keys}
 use Rattle.names.proofs.Places.{command_small}
 use Rattle.message.specs.{Fields.fields_of, Reading.outer_of, Reading.said_of, Reading.command_said, Code.Cells.places_of, Code.Cells.numbered}
 use Rattle.message.proofs.Known.{fields_known}
 use Rattle.message.proofs.Read.{Agrees, same_cells, number_said, payload_agrees}
 use Rattle.record.specs.Reading.{reading_by, reading_as, reading_named, reading_of}
-use Rattle.record.specs.Meant.{Answered, refuses, answer_of, lent_size, Meant}
+use Rattle.record.specs.Meant.{Answered, breaks, refuses, answer_of, lent_size, Meant}
 use Rattle.record.specs.Code.Places.{reading_numbered, reading_at, answer_by, answer_at}
 
 module _ (s places : List ℕ) (fs : Fields) (h : Agrees s places fs) where
@@ -42,7 +42,7 @@ module _ (s places : List ℕ) (fs : Fields) (h : Agrees s places fs) where
 module _ (s d : List ℕ) where
   -- the walk's answer decides whether there is a reading
   walked : Walked → Answered
-  walked (Err b) = refuses (number_of b.refusal) b.place d
+  walked (Err b) = breaks b d
   walked (Ok c) = answer_of c d (reading_at s (places_of s))
 
   ended_answer : (r : Step) → answer_by s d r ≡ walked (ended (length s) r)
@@ -50,7 +50,7 @@ module _ (s d : List ℕ) where
   ended_answer (Err b) = refl
   ended_answer (Ok n) = go (ltb n.at (length s))
     where
-      go : (t : Bool) → either t (λ _. refuses 10 n.at d) (λ _. answer_of n.count d (reading_at s (places_of s))) ≡ walked (either t (λ _. broken LeftOver n.at) (λ _. Ok n.count))
+      go : (t : Bool) → either t (λ _. breaks (record { refusal = LeftOver; place = n.at }) d) (λ _. answer_of n.count d (reading_at s (places_of s))) ≡ walked (either t (λ _. broken LeftOver n.at) (λ _. Ok n.count))
       go true = refl
       go false = refl
 
@@ -58,29 +58,18 @@ module _ (s d : List ℕ) where
   unfolding answer_at walk_of walked
   answer_walked l = simp (le-ltb (length d) lent_size l) (go (is_size (length s)))
     where
-      go : (a : Bool) → either a (λ _. answer_by s d (element_of s 8 Role.outer 0 0)) (λ _. refuses 3 0 d)
+      go : (a : Bool) → either a (λ _. answer_by s d (element_of s 8 Role.outer 0 0)) (λ _. refuses Size d)
           ≡ walked (either a (λ _. ended (length s) (element_of s 8 Role.outer 0 0)) (λ _. broken Size 0))
       go true = ended_answer (element_of s 8 Role.outer 0 0)
       go false = refl
-
-  walked_broken : (r : Walked) → (walk_refusal r ≡ 0 → ⊥) → walked r ≡ refuses (walk_refusal r) (walk_place r) d
-  unfolding walked
-  walked_broken (Err x) b = refl
-  walked_broken (Ok c) b = absurd (b refl)
 
   -- what the code answers is meant
   pub answer_meant : Meant s d (answer_at s d)
   unfolding walked answer_at
   answer_meant = record {
     short = λ l. simp (lt-ltb (length d) lent_size l);
-    broken = λ l b. answer_walked l ∙ walked_broken (walk_of s) b;
+    broken = λ l b e. answer_walked l ∙ ap walked e;
     whole = λ l w P.
         answer_walked l ∙ ap walked (tree_whole s w P)
         ∙ ap (answer_of (count_of w) d) (same_reading s (places_of s) (outer_of (meaning_of w)) (payload_agrees s w P));
   }
-
-  -- of a payload whose walk breaks the break is told: its number is never 0
-  pub broken_told : (r : Answered) → Meant s d r → lent_size ≤ length d → (b : Broken) → walk_of s ≡ Err b → r ≡ refuses (number_of b.refusal) b.place d
-  broken_told r m l b e =
-      let n : 0 < number_of b.refusal = break_number s b e in
-      m.broken l (λ z. let i : number_of b.refusal ≡ 0 = sym (ap walk_refusal e) ∙ z in omega arith) ∙ ap (λ (x : Walked). refuses (walk_refusal x) (walk_place x) d) e

@@ -4,18 +4,18 @@ use mathlib.Core.Path.{◌≡◌, refl, sym, ap, subst, ◌∙◌}
 use mathlib.Core.{Bool.Bool, Bool.true, Bool.false, List.List}
 use Prim.Native.Nat.{ℕ, ◌≤◌, ◌<◌}
 use native.Mathlib.Omega.{arith}
-use lib.{Dec.ltb, Dec.lit<, ListN.length}
+use lib.{Dec.ltb, ListN.length}
 use borrow.Author.Tests.{ltb-true, ltb-false}
 use Rattle.std.specs.Prelude.{Ok, Err}
-use Rattle.refusal.specs.Number.{number_of}
+use Rattle.refusal.specs.declared.{Broken.Broken, Refusal.TheVariants.Invalid}
+use Rattle.octets.specs.Bytes.{put_at}
 use Rattle.element.specs.{Form.Walked, Form.walk_of, Tree.Tree, Tree.count_of, Meaning.meaning_of}
-use Rattle.element.proofs.{Whole.whole_tree, Numbered.break_number}
+use Rattle.element.proofs.Whole.{whole_tree}
 use Rattle.message.specs.Reading.{outer_of}
-use Rattle.record.specs.declared.Message.{Message}
+use Rattle.record.specs.declared.{Message.Message, Counted.Counted}
 use Rattle.record.specs.{Fits.fits, Written.tree_for, Written.payload_for, Reading.Reading, Reading.reading_of, Lent.lent_of}
-use Rattle.record.specs.Meant.{Answered, refuses, answer_of, lent_size, Meant}
-use Rattle.record.proofs.{Typed.Typed, Payloads.payload_for_lem, RoundTrip.written_reads, Refusals.reading_number, Answered.broken_told}
-use Rattle.record.proofs.{Read.read_kept}
+use Rattle.record.specs.Meant.{Answered, breaks, refuses, answer_of, lent_size, Meant}
+use Rattle.record.proofs.{Typed.Typed, Payloads.payload_for_lem, RoundTrip.written_reads, Read.read_kept}
 
 -- demand 2, on bytes: what is written for a record, taken as a payload, is read as that record, and the bytes that it has lent stand at the start
 pub read_frame : (m : Message) (d : List ℕ) → fits m d ≡ true → Typed m → (buffer : List ℕ) → lent_size ≤ length buffer
@@ -26,7 +26,7 @@ read_frame m d h t buffer l r meant =
 module _ (s d : List ℕ) where
   -- a refusal, or the reading of a payload's tree
   data Form : Answered → Type 0 where
-    refusing : (n p : ℕ) → 0 < n → Form (refuses n p d)
+    refusing : (b : Broken) → Form (breaks b d)
     reading : lent_size ≤ length d → (w : Tree) → Form (answer_of (count_of w) d (reading_of (outer_of (meaning_of w))))
 
   -- the answer that is meant
@@ -39,11 +39,7 @@ module _ (s d : List ℕ) where
   settled = go (ltb (length d) lent_size) refl
     where
       walked : lent_size ≤ length d → (x : Walked) → walk_of s ≡ x → Settled
-      walked l (Err b) e = record {
-        answer = refuses (number_of b.refusal) b.place d;
-        form = refusing (number_of b.refusal) b.place (break_number s b e);
-        only = λ r m. broken_told s d r m l b e;
-      }
+      walked l (Err b) e = record { answer = breaks b d; form = refusing b; only = λ r m. m.broken l b e }
       walked l (Ok c) e =
           let t = whole_tree s c e in
           record {
@@ -53,7 +49,9 @@ module _ (s d : List ℕ) where
           }
 
       go : (b : Bool) → ltb (length d) lent_size ≡ b → Settled
-      go true e = record { answer = refuses 15 0 d; form = refusing 15 0 (lit< tt); only = λ r m. m.short (ltb-true (length d) lent_size e) }
+      go true e =
+          let b : Broken = record { refusal = Invalid; place = 0 } in
+          record { answer = breaks b d; form = refusing b; only = λ r m. m.short (ltb-true (length d) lent_size e) }
       go false e = walked (ltb-false (length d) lent_size e) (walk_of s) refl
 
   pub one_answer : (r q : Answered) → Meant s d r → Meant s d q → r ≡ q
@@ -61,15 +59,17 @@ module _ (s d : List ℕ) where
 
   -- what is read may be written, with the lent bytes as they then are
   abbrev Writes : Answered → Type 0
-  Writes r = r.told.refusal ≡ 0 → fits r.told.message r.lent ≡ true
+  Writes r = (x : Counted) → r.told ≡ Ok x → fits x.message r.lent ≡ true
 
   form_writes : {r : Answered} → Form r → Writes r
-  form_writes (refusing n p h) z = absurd (omega arith)
-  form_writes (reading l w) z = go (reading_of (outer_of (meaning_of w))) refl z
+  form_writes (refusing b) x e = absurd (cc e)
+  form_writes (reading l w) x e = go (reading_of (outer_of (meaning_of w))) refl x e
     where
-      go : (x : Reading) → reading_of (outer_of (meaning_of w)) ≡ x → Writes (answer_of (count_of w) d x)
-      go (Reading.refused n) q z = let h = reading_number (outer_of (meaning_of w)) n q in absurd (omega arith)
-      go (Reading.reads m e) q z = read_kept (outer_of (meaning_of w)) m e q d l
+      go : (y : Reading) → reading_of (outer_of (meaning_of w)) ≡ y → Writes (answer_of (count_of w) d y)
+      go (Reading.refused r) q x e = absurd (cc e)
+      go (Reading.reads m b) q x e =
+          let same : record { count = count_of w; message = m } ≡ x = cc e in
+          ap (λ (y : Counted). fits y.message (put_at d 0 b)) (sym same) ∙ read_kept (outer_of (meaning_of w)) m b q d l
 
-  pub read_writes : (r : Answered) → Meant s d r → r.told.refusal ≡ 0 → fits r.told.message r.lent ≡ true
+  pub read_writes : (r : Answered) → Meant s d r → (x : Counted) → r.told ≡ Ok x → fits x.message r.lent ≡ true
   read_writes r m = subst Writes (sym (settled.only r m)) (form_writes settled.form)

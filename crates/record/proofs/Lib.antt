@@ -11,6 +11,5 @@ pub mod RoundTrip
 pub mod Made
 pub mod Built
 pub mod Read
-pub mod Refusals
 pub mod Answers
 pub mod Downlinks

@@ -7,6 +7,7 @@ use Prim.Native.Nat.{ℕ, ◌+◌, ◌-◌, ◌/◌, ◌≤◌, max}
 use native.Mathlib.Omega.{arith}
 use lib.Dec.{T, eqb, ltb, eqb→eq}
 use lib.ListN.{length, take, drop, take-append-drop}
+use Rattle.refusal.specs.declared.Refusal.{Refusal, TheVariants.UnknownCommand}
 use Rattle.octets.specs.{Choice.either, Bytes.put_at}
 use Rattle.octets.proofs.Writing.{put_in}
 use Rattle.element.specs.Meaning.{Fields}
@@ -17,10 +18,10 @@ use Rattle.message.specs.Reading.{said_of, cells_of, gravest, crossed, command_s
 use Rattle.saying.proofs.Found.{AllSound, all_sound, found}
 use Rattle.record.specs.declared.Message.{Message}
 use Rattle.record.specs.{Record.message_of, Record.data_of, Fits.fits, Meant.lent_size, Lent.lent_of}
-use Rattle.record.specs.Reading.{Reading, reading_unless, reading_as, reading_named, reading_of}
+use Rattle.record.specs.Reading.{Reading, refusal_of, reading_unless, reading_as, reading_named, reading_of}
 use Rattle.record.proofs.Built.{command_fits, command_lends}
 
-refused_reads : {A : Type 0} {n : ℕ} {m : Message} {e : List ℕ} → Reading.refused n ≡ Reading.reads m e → A
+refused_reads : {A : Type 0} {n : Refusal} {m : Message} {e : List ℕ} → Reading.refused n ≡ Reading.reads m e → A
 refused_reads q = let z : ◌≡◌ {A = ℕ} 0 1 = cc in absurd (omega arith)
 
 -- the reading of a command without a fault
@@ -42,7 +43,7 @@ module _ (said : List ℕ → Said) (n : List ℕ) (named : command_said (said (
   judged_came c g h q r = go (eqb g 0) refl r
     where
       go : (b : Bool) → eqb g 0 ≡ b
-          → either b (λ _. Reading.reads (message_of c (found said c)) (data_of c (found said c))) (λ _. Reading.refused (16 - g / 64)) ≡ Reading.reads m e → Came said m e
+          → either b (λ _. Reading.reads (message_of c (found said c)) (data_of c (found said c))) (λ _. Reading.refused (refusal_of (g / 64))) ≡ Reading.reads m e → Came said m e
       go true z r =
           let none-grave : max (gravest 0 0 (fields_of c) (cells_of (fields_of c) said)) (crossed (fields_of c) (found said c)) ≡ 0 = q ∙ eqb→eq g 0 (rw z tt) in
           record {
@@ -57,7 +58,7 @@ module _ (said : List ℕ → Said) (n : List ℕ) (named : command_said (said (
           }
       go false z r = refused_reads r
 
-  named_came : (c : ℕ) (b : Bool) → ltb c 24 ≡ b → either b (λ _. reading_as c said) (λ _. Reading.refused 12) ≡ Reading.reads m e → Came said m e
+  named_came : (c : ℕ) (b : Bool) → ltb c 24 ≡ b → either b (λ _. reading_as c said) (λ _. Reading.refused UnknownCommand) ≡ Reading.reads m e → Came said m e
   unfolding reading_as
   named_came c true h r = judged_came c (grade c) (rw h tt) refl r
   named_came c false h r = refused_reads r

@@ -125,11 +125,9 @@ pub struct Message {
     pub body: Body,
 }
 
-// A record with its count of elements; or document 01's number, the place for 4 to 10, and zeros besides.
+// A record that was read, and how many elements its payload has.
 #[derive(Clone, Copy)]
-pub struct Told {
-    pub refusal: u8,
-    pub place: usize,
+pub struct Counted {
     pub count: usize,
     pub message: Message,
 }

@@ -7,8 +7,9 @@ use native.Mathlib.Omega.{arith}
 use lib.{Dec.eqb, Dec.leb, Dec.ltb, ListN.length, ListN.take, ListN.drop}
 use borrow.Author.Tests.{lt-ltb, le-ltb, le-leb, lt-leb, eq-eqb, ne_eqb, leb-true, leb-false, ltb-true, ltb-false, eqb-true, not-true, not-false}
 use Rattle.octets.proofs.{Ranges.same_test, Ranges.true_false, Truth.neither}
-use Rattle.frame.specs.declared.Framed.{Framed, TheVariants.Whole, TheVariants.Refused}
-use Rattle.frame.specs.Frame.{framed_of}
+use Rattle.std.specs.Prelude.{Ok, Err}
+use Rattle.refusal.specs.declared.Refusal.{Refusal}
+use Rattle.frame.specs.Frame.{Framed, frame_refusal, framed_of}
 use Rattle.frame.proofs.Format.{fits, refused_number}
 use Rattle.groups.specs.declared.Number.{Number}
 use Rattle.groups.specs.Groups.{number_at}
@@ -18,8 +19,8 @@ use Rattle.trace.specs.Record.{is_one_frame, is_frame_length, is_time, refused_e
 
 -- one whole frame, by the frame's answer
 module _ (f : List ℕ) (r : Framed) (q : r ≡ framed_of f) where
-  module _ (n : ℕ) (e : r ≡ Whole n) where
-    whole : framed_of f ≡ Whole n
+  module _ (n : ℕ) (e : r ≡ Ok n) where
+    whole : framed_of f ≡ Ok n
     whole = sym q ∙ e
 
     pub head_there : 12 ≤ length f
@@ -33,12 +34,12 @@ module _ (f : List ℕ) (r : Framed) (q : r ≡ framed_of f) where
         (λ t. eq-eqb (12 + n) (length f) (omega (arith, eqb-true (length f - 12) n t)))
         (λ t. eq-eqb (length f - 12) n (omega (arith, eqb-true (12 + n) (length f) t))))
 
-  pub refused_not_one : (k : ℕ) → r ≡ Refused k → false ≡ is_one_frame f
+  pub refused_not_one : (k : Refusal) → r ≡ Err k → false ≡ is_one_frame f
   unfolding is_one_frame
   refused_not_one k e =
-      let p : framed_of f ≡ Refused k = sym q ∙ e in
-      let h : 0 < k = refused_number f k p in
-      simp (p, ne_eqb k 0 (λ z. omega arith))
+      let p : framed_of f ≡ Err k = sym q ∙ e in
+      let h = refused_number f k p in
+      simp (p, ne_eqb (frame_refusal (Err k)) 0 (λ z. omega arith))
 
 pub ruleset frames = (head_there, whole_is_one, refused_not_one)
 

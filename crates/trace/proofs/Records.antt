@@ -10,8 +10,9 @@ use lib.Seq.{drop-drop}
 use borrow.Author.Tests.{le-leb, leb-true, ltb-true, eqb-true}
 use Rattle.octets.specs.{Choice.either, Bytes.IsBytes, Size.is_size}
 use Rattle.octets.proofs.{Truth.both, Sizes.sized_some, Sizes.sized_most, Places.after, Places.part}
-use Rattle.frame.specs.declared.Framed.{Framed, TheVariants.Whole, TheVariants.Refused}
-use Rattle.frame.specs.Frame.{identifier, agrees, size_of, framed_of, frame_refusal, used_of}
+use Rattle.std.specs.Prelude.{Ok, Err}
+use Rattle.refusal.specs.declared.Refusal.{Refusal, TheVariants.FrameIncomplete, TheVariants.FrameIdentifier, TheVariants.Size}
+use Rattle.frame.specs.Frame.{Framed, identifier, agrees, size_of, framed_of, frame_refusal, used_of}
 use Rattle.frame.proofs.Format.{refused_number}
 use Rattle.groups.specs.declared.Number.{Number}
 use Rattle.groups.specs.Groups.{last_group, number_bytes, number_at}
@@ -22,14 +23,14 @@ use Rattle.trace.specs.{Trace.end_of, Write.record_bytes}
 use Rattle.trace.proofs.{Apart.apart, Apart.together, Entries.read_frame_long}
 
 -- a whole frame has 13 to 4,108 bytes
-whole_tests : (a b c d : Bool) (m n : ℕ) → either a (λ _. either b (λ _. Refused 1) (λ _. either c (λ _. either d (λ _. Refused 1) (λ _. Whole m)) (λ _. Refused 3))) (λ _. Refused 2) ≡ Whole n → (c ≡ true) × (m ≡ n)
-whole_tests false b c d m n e = let z : ◌≡◌ {A = ℕ} 0 1 = cc in absurd (omega arith)
-whole_tests true true c d m n e = let z : ◌≡◌ {A = ℕ} 0 1 = cc in absurd (omega arith)
-whole_tests true false false d m n e = let z : ◌≡◌ {A = ℕ} 0 1 = cc in absurd (omega arith)
-whole_tests true false true true m n e = let z : ◌≡◌ {A = ℕ} 0 1 = cc in absurd (omega arith)
+whole_tests : (a b c d : Bool) (m n : ℕ) → either a (λ _. either b (λ _. Err FrameIncomplete) (λ _. either c (λ _. either d (λ _. Err FrameIncomplete) (λ _. Ok m)) (λ _. Err Size))) (λ _. Err FrameIdentifier) ≡ Ok n → (c ≡ true) × (m ≡ n)
+whole_tests false b c d m n e = cc
+whole_tests true true c d m n e = cc
+whole_tests true false false d m n e = cc
+whole_tests true false true true m n e = cc
 whole_tests true false true false m n e = (refl, cc)
 
-whole_sized : (f : List ℕ) (n : ℕ) → framed_of f ≡ Whole n → is_size n ≡ true
+whole_sized : (f : List ℕ) (n : ℕ) → framed_of f ≡ Ok n → is_size n ≡ true
 unfolding framed_of
 whole_sized f n e =
     let t = whole_tests (agrees identifier f) (ltb (length f) 12) (is_size (size_of f)) (ltb (length f) (12 + size_of f)) (size_of f) n e in
@@ -43,11 +44,11 @@ one_sized f t = go (framed_of f) refl tests.0 tests.1
     tests = both (eqb (frame_refusal (framed_of f)) 0) (eqb (used_of (framed_of f)) (length f)) t
 
     go : (r : Framed) → framed_of f ≡ r → eqb (frame_refusal r) 0 ≡ true → eqb (used_of r) (length f) ≡ true → is_frame_length (length f) ≡ true
-    go (Whole n) e a b =
+    go (Ok n) e a b =
         let w = whole_sized f n e in
         let l : 12 + n ≡ length f = eqb-true (12 + n) (length f) b in
         simp (le-leb 13 (length f) (omega (arith, sized_some n w)), le-leb (length f) 4108 (omega (arith, sized_most n w)))
-    go (Refused k) e a b = absurd (omega (arith, refused_number f k e, eqb-true k 0 a))
+    go (Err k) e a b = absurd (omega (arith, refused_number f k e, eqb-true (frame_refusal (Err k)) 0 a))
 
 -- the numbers in front of the frame
 abbrev pub head_of : ℕ → ℕ → List ℕ → List ℕ

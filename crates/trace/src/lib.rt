@@ -8,7 +8,6 @@ mod refusals;
 ghost use Rattle.std.specs.Prelude.{◌≡◌, ◌+◌};
 ghost use Rattle.trace.specs.Record.{is_one_frame, is_time};
 
-use frame::Framed;
 pub use reader::{read, start};
 pub use recorder::{write, write_start};
 
@@ -37,8 +36,8 @@ fn is_one_frame(f: &[u8]) -> bool
     ensures { result ≡ is_one_frame f.now }
 {
     match frame::read(f) {
-        Framed::Whole(n) => f.len() - frame::HEAD == n,
-        Framed::Refused(_) => false,
+        Ok(n) => f.len() - frame::HEAD == n,
+        Err(_) => false,
     }
 }
 

@@ -1,6 +1,6 @@
 // Document 01's examples of limits: sizes and counts on both sides, and a length that is not to be trusted.
 use crate::{payload, text};
-use frame::Framed;
+use refusal::Refusal;
 use std::io;
 
 // How many limits were tried, and how many answers were wrong.
@@ -80,21 +80,15 @@ fn promise(rt: &impl Print, room: &mut [u8], count: Count) -> io::Result<Count> 
 }
 
 // A frame with a payload of n bytes.
-fn framed(room: &mut [u8], n: usize) -> Framed {
+fn framed(room: &mut [u8], n: usize) -> Result<usize, Refusal> {
     payload::copy(room, b"MIOTYB01");
     octets::put_little(room, 8, 4, n as u64);
     frame::read(room)
 }
 
 fn frames(rt: &impl Print, room: &mut [u8], count: Count) -> io::Result<Count> {
-    let whole = match framed(room, 4096) {
-        Framed::Whole(n) => n == 4096,
-        Framed::Refused(_) => false,
-    };
+    let whole = framed(room, 4096) == Ok(4096);
     let c = judged(rt, count, whole, "frame of size 4,096: whole")?;
-    let refused = match framed(room, 4097) {
-        Framed::Whole(_) => false,
-        Framed::Refused(k) => k == 3,
-    };
+    let refused = framed(room, 4097) == Err(Refusal::Size);
     judged(rt, c, refused, "frame of size 4,097: refusal 3")
 }

@@ -1,15 +1,16 @@
-use Rattle.octets.proofs.Reading.{turns_down}
-use Rattle.std.proofs.Common.{rules}
+use Rattle.std.proofs.Common.{rules, arith}
+use Rattle.octets.proofs.Reading.{one_less, next_front, little_turn, wider_down}
 use Rattle.octets.proofs.little_of.Goals as goal
 
-pub loop-left-init : goal.loop-left-init
-loop-left-init c = search (turns_down, rules)
-
-pub overflow_mul-x : goal.overflow_mul-x
-overflow_mul-x c = search (turns_down, rules)
-
-pub overflow_add-x-in-loop-left : goal.overflow_add-x-in-loop-left
-overflow_add-x-in-loop-left c = search (turns_down, rules)
-
-pub loop-left-preserved : goal.loop-left-preserved
-loop-left-preserved c = search (turns_down, rules)
+pub loop-b-preserved : goal.loop-b-preserved
+loop-b-preserved c =
+    let i = c.loop-b.invariant in
+    let e = c.in-Some.ensures.steps in
+    record {
+      can_next = tt;
+      is_finite = tt;
+      front = next_front _ _ i.front _ _ e;
+      part = omega (arith, one_less _ _ i.front _ _ e, i.part);
+      number = little_turn _ _ i.front _ _ e c.type_inv.d i.part _ i.width _ (search rules) i.number;
+      width = wider_down _ _ i.front _ _ e c.type_inv.d i.part _ i.width _ (search rules);
+    }

@@ -1,6 +1,5 @@
-use borrow.Author.Rules.{rules}
-use Rattle.reading.proofs.Answers.{ways}
 use Rattle.std.proofs.Common.{rules}
+use Rattle.reading.proofs.Answers.{ways}
 use Rattle.reading.proofs.fields.Goals as goal
 
 pub returns-then-g-ne0 : goal.returns-then-g-ne0

@@ -1,13 +1,6 @@
-use borrow.Author.Rules.{rules}
-use Rattle.reading.proofs.Answers.{ways}
-use Rattle.std.proofs.Common.{rules}
+use Rattle.reading.proofs.Answers.{stepped_broken}
 use Rattle.reading.proofs.stepped.Goals as goal
 
-pub returns-then-at-s : goal.returns-then-at-s
-returns-then-at-s c = search (ways, rules)
-
-pub returns-in-Err : goal.returns-in-Err
-returns-in-Err c = search (ways, rules)
-
-pub returns-else-at-s : goal.returns-else-at-s
-returns-else-at-s c = search (ways, rules)
+pub returns-in_err-at : goal.returns-in_err-at
+returns-in_err-at c =
+    stepped_broken c.args.s.now c.args.places.now c.args.d.now c.args.step c.from_residual.result c.in_err-at.field-0.0 c.in_err-at.was c.from_residual.ensures.1

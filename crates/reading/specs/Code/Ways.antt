@@ -2,14 +2,14 @@
 use Rattle.std.specs.Prelude.{ℕ, Ok, Err}
 use mathlib.Core.{Path.◌≡◌, List.List}
 use lib.{Dec.ltb, ListN.length, ListN.take, ListN.get_or}
-use Rattle.refusal.specs.Number.{number_of}
+use Rattle.refusal.specs.declared.Refusal.TheVariants.{LeftOver}
 use Rattle.octets.specs.{Choice.either, Bytes.put_at, Pieces.downlink_bytes}
 use Rattle.element.specs.Form.{Step}
 use Rattle.names.specs.{Names.bytes, Code.Slots.slot_of}
 use Rattle.field.specs.{Kind.Kind, Judge.judge, Cell.Cell, Code.At.shallow_at, Code.At.cell_at, Code.At.string_filled}
 use Rattle.message.specs.{Fields.fields_of, Record.word_in, Code.Cells.cells_at}
 use Rattle.record.specs.declared.Body.{Body}
-use Rattle.record.specs.{Record.counts_in, Record.strings_in, Reading.reading_by, Meant.Answered, Meant.refuses, Meant.answer_of, Code.Places.reading_at}
+use Rattle.record.specs.{Record.counts_in, Record.strings_in, Reading.reading_by, Meant.Answered, Meant.breaks, Meant.answer_of, Code.Places.reading_at}
 
 -- the cells of a downlink's counters and data entries
 abbrev pub counters_at : List ℕ → List ℕ → Cell
@@ -54,5 +54,6 @@ named_by s places count d = answer_of count d (reading_at s places)
 
 -- by the walk's answer
 unfoldable pub stepped_by : List ℕ → List ℕ → List ℕ → Step → Answered
-stepped_by s places d (Ok n) = either (ltb n.at (length s)) (λ _. refuses 10 n.at d) (λ _. named_by s places n.count d)
-stepped_by s places d (Err b) = refuses (number_of b.refusal) b.place d
+stepped_by s places d (Err b) = breaks b d
+stepped_by s places d (Ok n) =
+    either (ltb n.at (length s)) (λ _. breaks (record { refusal = LeftOver; place = n.at }) d) (λ _. named_by s places n.count d)
