@@ -1,6 +1,7 @@
 // Document 01's examples of limits: sizes and counts on both sides, and a length that is not to be trusted.
 use crate::{payload, text};
 use frame::Framed;
+use refusal::Refusal;
 use std::io;
 
 // How many limits were tried, and how many answers were wrong.
@@ -51,7 +52,7 @@ fn payloads(rt: &impl Print, room: &mut [u8], count: Count) -> io::Result<Count>
     let whole = payload::is_whole(room, 4096, 7);
     let c = judged(rt, count, whole, "payload of 4,096 bytes: 7 elements")?;
     filled(room, 0xC5, 4097 - 25);
-    let refused = payload::is_refused(room, 4097, 3, 0);
+    let refused = payload::is_refused(room, 4097, Refusal::Size, 0);
     judged(rt, c, refused, "payload of 4,097 bytes: refusal 3")
 }
 
@@ -61,7 +62,7 @@ fn elements(rt: &impl Print, room: &mut [u8], count: Count) -> io::Result<Count>
     let whole = payload::is_whole(room, 1042, 1024);
     let c = judged(rt, count, whole, "1,024 elements: whole")?;
     filled(room, 0xDC, 1025 - 7);
-    let refused = payload::is_refused(room, 1043, 7, 1042);
+    let refused = payload::is_refused(room, 1043, Refusal::TooManyElements, 1042);
     judged(rt, c, refused, "1,025 elements: refusal 7 at the last")
 }
 
@@ -70,7 +71,7 @@ fn promise(rt: &impl Print, room: &mut [u8], count: Count) -> io::Result<Count> 
     payload::start(room);
     payload::put(room, payload::VALUE, 0xDD);
     octets::put_big(room, payload::VALUE + 1, 4, 0xFFFF_FFFF);
-    let cut = payload::is_refused(room, 27, 4, 27);
+    let cut = payload::is_refused(room, 27, Refusal::Cut, 27);
     judged(
         rt,
         count,
