@@ -110,7 +110,10 @@ module _ (s : List ℕ) (n at : ℕ) where
     pub eight_counts : n < 2 ^ 64 → Fits w64 (i + 8)
     eight_counts l = record { fits = omega (arith, eight_left) }
 
-pub ruleset passings = (passes_none, passes_one, passes_eight, eight_less, eight_fits, eight_counts)
+pub passes_as : (s : List ℕ) (n at q i j : ℕ) → Passes s n at q i → j ≡ i → Passes s n at q j
+passes_as s n at q i j k e = rw e k
+
+pub ruleset passings = (passes_as, passes_none, passes_one, passes_eight, eight_less, eight_fits, eight_counts)
 
 -- of an array at a level
 pub ran_none : (s : List ℕ) (left n at count : ℕ) → Ran s left n at count at 0

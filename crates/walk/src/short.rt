@@ -162,18 +162,12 @@ pub fn quick_of(b: u8) -> usize
 fn is_number(b: u8) -> bool
     ensures { result ≡ is_number b }
 {
-    if b < 0xCA {
-        return false;
-    }
-    if b < 0xD4 { true } else { false }
+    matches!(b, 0xCA..=0xD3)
 }
 
 // An element without parts.
 pub fn is_short(z: usize) -> bool
     ensures { result ≡ is_short z }
 {
-    if z == 0 {
-        return false;
-    }
-    if z < MAP { true } else { false }
+    0 < z && z < MAP
 }
