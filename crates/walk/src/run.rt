@@ -41,6 +41,7 @@ fn countable(count: usize, left: usize, n: usize) -> usize
 }
 
 // Such parts among n: by eights, then one by one.
+#[tactic(auto, using(crate::proofs::Runs::passings))]
 fn octets_from(s: &[u8], at: usize, n: usize) -> Passed
     ensures { Passes s.now n at result.at result.parts }
 {
@@ -59,6 +60,7 @@ fn octets_from(s: &[u8], at: usize, n: usize) -> Passed
 }
 
 // The place behind such a part; its own place where it is another, or where two bytes, enough for either, are not there.
+#[tactic(auto, using(crate::proofs::Runs::octet_ends))]
 fn octet_end(s: &[u8], at: usize) -> usize
     ensures { Follows s.now at result }
 {
@@ -72,7 +74,7 @@ fn octet_end(s: &[u8], at: usize) -> usize
     }
 }
 
-// Many arrays begin with bytes below 0x80: these go by eights.
+// Many arrays begin with bytes below 0x80: these go by eights, until eight are not low.
 fn eights(s: &[u8], at: usize, n: usize) -> Passed
     ensures { Passes s.now n at result.at result.parts }
 {
@@ -86,6 +88,7 @@ fn eights(s: &[u8], at: usize, n: usize) -> Passed
 }
 
 // Eight parts more of n are left, and are bytes below 0x80.
+#[tactic(auto, using(crate::proofs::Runs::eights))]
 fn eight_more(s: &[u8], at: usize, n: usize) -> bool
     ensures { result ≡ eight_more s.now at n }
 {

@@ -1,5 +1,6 @@
 // The element reader and the container readers, which call each other: the levels left fall at each round,
-// the items left at each turn of a loop.
+// the items left at each turn of a loop. Place and count go in as two numbers: most calls make them by sums, as `at + 1, count + 1`,
+// where a `Next { at: at + 1, count: count + 1 }` says no more.
 ghost use mathlib.Core.{Path.◌≡◌, Bool.true, Bool.false};
 ghost use Rattle.std.specs.Prelude.{◌+◌, ◌≤◌, ◌<◌, length, get_or};
 ghost use Rattle.element.specs.Form.{Role, body_of, fault_of, span_of, element_of};
