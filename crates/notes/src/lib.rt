@@ -23,6 +23,7 @@ pub struct Noted {
 }
 
 // The outer element of a payload, and the places of its map's values.
+#[tactic(auto, using(crate::proofs::Opening::ways))]
 pub fn outer(s: &[u8]) -> Noted
     ensures { result ≡ noted_of s.now }
 {
@@ -33,6 +34,7 @@ pub fn outer(s: &[u8]) -> Noted
 }
 
 // The same of a payload of lawful size.
+#[tactic(auto, using(crate::proofs::Opening::ways))]
 fn opened(s: &[u8]) -> Noted
     requires { is_size (length s.now) ≡ true }
     ensures { result ≡ opened_of s.now }
@@ -48,17 +50,17 @@ fn opened(s: &[u8]) -> Noted
 }
 
 // An outer map: how many pairs it states, and where they begin.
+#[tactic(auto, using(crate::proofs::Opening::maps))]
 fn opened_map(s: &[u8]) -> Noted
     requires { BeginsMap s.now }
     ensures { result ≡ opened_of s.now }
 {
-    let h = map_head(s[0]);
-    let wide = h.wide;
+    let Head { wide, more, .. } = map_head(s[0]);
     if s.len() - 1 < wide {
         return broken(Refusal::Cut);
     }
     let from = 1 + wide;
-    let n = h.more + (length_at(s, 1, wide) as usize);
+    let n = more + (length_at(s, 1, wide) as usize);
     pass_pairs(s, from, n)
 }
 
@@ -70,7 +72,7 @@ pub const NO_TEXT: u8 = 25;
 pub fn command_at(s: &[u8], place: u16) -> u8
     ensures { result ≡ command_at s.now place }
 {
-    let p = place as usize;
+    let p = usize::from(place);
     if p < 2 {
         return NO_TEXT;
     }
@@ -85,17 +87,17 @@ pub fn command_at(s: &[u8], place: u16) -> u8
 }
 
 // The same of a text that stands there: its bytes, where they are all there.
+#[tactic(auto, using(crate::proofs::Naming::namings))]
 fn named_at(s: &[u8], p: usize) -> u8
     requires { IsTextAt s.now p }
     ensures { result ≡ command_at s.now p }
 {
-    let h = text_head(s[p]);
-    let wide = h.wide;
+    let Head { wide, more, .. } = text_head(s[p]);
     if s.len() - p - 1 < wide {
         return NO_TEXT;
     }
     let from = p + 1 + wide;
-    let n = h.more + (length_at(s, p + 1, wide) as usize);
+    let n = more + (length_at(s, p + 1, wide) as usize);
     if s.len() - from < n {
         return NO_TEXT;
     }
@@ -104,6 +106,7 @@ fn named_at(s: &[u8], p: usize) -> u8
 }
 
 // The head of a map's lead byte. Below 90, as in most messages, no bytes of length follow.
+#[tactic(auto, using(crate::proofs::Opening::heads))]
 fn map_head(b: u8) -> Head
     requires { (head_of b).shape ≡ Shape.Map }
     ensures { Announces b result }
@@ -112,13 +115,14 @@ fn map_head(b: u8) -> Head
         return Head {
             shape: Shape::Map,
             wide: 0,
-            more: (b - 0x80) as usize,
+            more: usize::from(b - 0x80),
         };
     }
     walk::lead::head_of(b)
 }
 
 // The head of a text's lead byte. Below C0, as in most messages, no bytes of length follow.
+#[tactic(auto, using(crate::proofs::Opening::heads))]
 fn text_head(b: u8) -> Head
     requires { (head_of b).shape ≡ Shape.Text }
     ensures { Announces b result }
@@ -127,13 +131,14 @@ fn text_head(b: u8) -> Head
         return Head {
             shape: Shape::Text,
             wide: 0,
-            more: (b - 0xA0) as usize,
+            more: usize::from(b - 0xA0),
         };
     }
     walk::lead::head_of(b)
 }
 
 // What the bytes of length state. Where there are none, no call of the number reader.
+#[tactic(auto, using(crate::proofs::Opening::lengths))]
 fn length_at(s: &[u8], from: usize, wide: usize) -> u64
     ensures is { result ≡ if_there s.now from wide (big_at s.now from wide) }
     ensures width { result < 256 ^ wide }

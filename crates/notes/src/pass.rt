@@ -57,6 +57,7 @@ fn note(old: u16, q: u16) -> u16
 }
 
 // The slot of the key that stands from p to q.
+#[tactic(auto, using(crate::proofs::Turns::slots))]
 fn slot_at(s: &[u8], p: usize, q: usize) -> usize
     requires { IsKey s.now p q }
     ensures is { result ≡ slot_of (key_at s.now p q) }
@@ -67,6 +68,7 @@ fn slot_at(s: &[u8], p: usize, q: usize) -> usize
 }
 
 // Where the body of the element at p begins. Below C0 no bytes of length follow: so most keys are told by one test.
+#[tactic(auto, using(crate::proofs::Turns::bodies))]
 fn body_of(s: &[u8], p: usize) -> usize
     requires { body_from s.now p ≤ length s.now }
     ensures { result ≡ body_from s.now p }

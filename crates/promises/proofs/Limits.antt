@@ -6,9 +6,9 @@ use Prim.Native.Nat.{ℕ, zero, suc, ◌/◌, ◌%◌, ◌≤◌}
 use native.Mathlib.Omega.{arith}
 use lib.ListN.{length, drop, replicate}
 use Rattle.octets.specs.{Number.big_at, Size.is_size}
-use Rattle.element.specs.declared.Walked.TheVariants.{Refused}
+use Rattle.refusal.specs.declared.Refusal.TheVariants.{TooManyElements}
 use Rattle.element.specs.{Lead.lead_bytes, Lead.row_in, Lead.head_of, Tree.Tree.array, Tree.Tree.map, Tree.Trees.none, Tree.Trees.some}
-use Rattle.element.specs.Form.{fault_of, body_of, span_of, times, element_of, walk_of}
+use Rattle.element.specs.Form.{broken, fault_of, body_of, span_of, times, element_of, walk_of}
 use Rattle.element.specs.Tree.{Tree, Trees, Pairs, bytes_of, count_of, depth_of, part_count, pair_count, Lawful}
 use Rattle.message.specs.Fields.{lists, list_in}
 use Rattle.record.specs.Meant.{Answered, lent_size, Meant}
@@ -65,8 +65,8 @@ pub over_unsaid : (s : List ℕ) → Carries s (ping_heaped 1018) → ⊥
 unfolding count_of
 over_unsaid s S = omega (arith, S.payload.count)
 
--- the walk breaks with 7 where the last of them stands
-pub over_refused : walk_of (P-heaped 1018) ≡ Refused 7 1042
+-- the walk breaks, with too many elements, where the last of them stands
+pub over_refused : walk_of (P-heaped 1018) ≡ broken TooManyElements 1042
 unfolding is_size walk_of element_of times span_of body_of fault_of head_of row_in lead_bytes big_at
 over_refused = refl
 
@@ -74,5 +74,5 @@ over_refused = refl
 pub over_unlike : (d : List ℕ) → lent_size ≤ length d → (r q : Answered) → Meant P d r → Meant (P-heaped 1018) d q → Alike r q → ⊥
 over_unlike d h r q M N A =
     let e : r.told.refusal ≡ 0 = ap (λ (x : Answered). x.told.refusal) (answered P ping ping_said ping_1 [] added_read.0 d h r M) in
-    let f : q.told.refusal ≡ 7 = ap (λ (x : Answered). x.told.refusal) (broken_told (P-heaped 1018) d q N h 7 1042 over_refused) in
+    let f : q.told.refusal ≡ 7 = ap (λ (x : Answered). x.told.refusal) (broken_told (P-heaped 1018) d q N h (record { refusal = TooManyElements; place = 1042 }) over_refused) in
     omega (arith, A.refusal)

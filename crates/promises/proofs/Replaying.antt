@@ -8,8 +8,8 @@ use lib.{Dec.T, Dec.eqb, Dec.lit<, ListN.length, ListN.length-replicate}
 use borrow.Author.Tests.{eq-eqb, ne_eqb, eqb-true, eqb-false}
 use Rattle.octets.specs.{Choice.either, Bytes.IsBytes}
 use Rattle.octets.proofs.Ranges.{is_false}
-use Rattle.element.specs.declared.Walked.{Walked, TheVariants.Whole, TheVariants.Refused}
-use Rattle.element.specs.{Form.walk_of, Form.walk_refusal, Tree.count_of, Meaning.meaning_of}
+use Rattle.std.specs.Prelude.{Ok, Err}
+use Rattle.element.specs.{Form.Walked, Form.walk_of, Form.walk_refusal, Tree.count_of, Meaning.meaning_of}
 use Rattle.element.proofs.Whole.{whole_tree}
 use Rattle.names.specs.Names.{bytes, commands, command_of, place_in, downlink}
 use Rattle.message.specs.Reading.{outer_of}
@@ -55,8 +55,8 @@ told_same : (s d e : List ℕ) → lent_size ≤ length d → lent_size ≤ leng
 told_same s d e h l r q m n = go (walk_of s) refl
   where
     go : (x : Walked) → walk_of s ≡ x → r.told ≡ q.told
-    go (Refused i p) w = ap told (broken_told s d r m h i p w) ∙ sym (ap told (broken_told s e q n l i p w))
-    go (Whole c) w =
+    go (Err b) w = ap told (broken_told s d r m h b w) ∙ sym (ap told (broken_told s e q n l b w))
+    go (Ok c) w =
         let t = whole_tree s c w in
         ap told (m.whole h t.0 t.1) ∙ told_of (count_of t.0) d e (reading_of (outer_of (meaning_of t.0))) ∙ sym (ap told (n.whole l t.0 t.1))
 
@@ -64,10 +64,10 @@ known : (s d : List ℕ) → IsBytes s → lent_size ≤ length d → (r : Answe
 known s d f h r m = go (walk_of s) refl
   where
     go : (x : Walked) → walk_of s ≡ x → Known r
-    go (Refused i p) w =
-        subst Known (sym (broken_told s d r m h i p w))
+    go (Err b) w =
+        subst Known (sym (broken_told s d r m h b w))
         (record { small = subst (λ (x : Walked). walk_refusal x < 256) w (walk_small s); typed = tt })
-    go (Whole c) w =
+    go (Ok c) w =
         let t = whole_tree s c w in
         subst Known (sym (m.whole h t.0 t.1))
         (known_of (count_of t.0) d (reading_of (outer_of (meaning_of t.0))) (reading_proper t.0 (subst IsBytes (sym t.1.bytes) f)))

@@ -1,5 +1,6 @@
 // Document 01's examples of limits: sizes and counts on both sides, and a length that is not to be trusted.
 use crate::{payload, text};
+use frame::Framed;
 use refusal::Refusal;
 use std::io;
 
@@ -51,7 +52,7 @@ fn payloads(rt: &impl Print, room: &mut [u8], count: Count) -> io::Result<Count>
     let whole = payload::is_whole(room, 4096, 7);
     let c = judged(rt, count, whole, "payload of 4,096 bytes: 7 elements")?;
     filled(room, 0xC5, 4097 - 25);
-    let refused = payload::is_refused(room, 4097, 3, 0);
+    let refused = payload::is_refused(room, 4097, Refusal::Size, 0);
     judged(rt, c, refused, "payload of 4,097 bytes: refusal 3")
 }
 
@@ -61,7 +62,7 @@ fn elements(rt: &impl Print, room: &mut [u8], count: Count) -> io::Result<Count>
     let whole = payload::is_whole(room, 1042, 1024);
     let c = judged(rt, count, whole, "1,024 elements: whole")?;
     filled(room, 0xDC, 1025 - 7);
-    let refused = payload::is_refused(room, 1043, 7, 1042);
+    let refused = payload::is_refused(room, 1043, Refusal::TooManyElements, 1042);
     judged(rt, c, refused, "1,025 elements: refusal 7 at the last")
 }
 
@@ -70,7 +71,7 @@ fn promise(rt: &impl Print, room: &mut [u8], count: Count) -> io::Result<Count> 
     payload::start(room);
     payload::put(room, payload::VALUE, 0xDD);
     octets::put_big(room, payload::VALUE + 1, 4, 0xFFFF_FFFF);
-    let cut = payload::is_refused(room, 27, 4, 27);
+    let cut = payload::is_refused(room, 27, Refusal::Cut, 27);
     judged(
         rt,
         count,
@@ -80,15 +81,21 @@ fn promise(rt: &impl Print, room: &mut [u8], count: Count) -> io::Result<Count> 
 }
 
 // A frame with a payload of n bytes.
-fn framed(room: &mut [u8], n: usize) -> Result<usize, Refusal> {
+fn framed(room: &mut [u8], n: usize) -> Framed {
     payload::copy(room, b"MIOTYB01");
     octets::put_little(room, 8, 4, n as u64);
     frame::read(room)
 }
 
 fn frames(rt: &impl Print, room: &mut [u8], count: Count) -> io::Result<Count> {
-    let whole = framed(room, 4096) == Ok(4096);
+    let whole = match framed(room, 4096) {
+        Framed::Whole(n) => n == 4096,
+        Framed::Refused(_) => false,
+    };
     let c = judged(rt, count, whole, "frame of size 4,096: whole")?;
-    let refused = framed(room, 4097) == Err(Refusal::Size);
+    let refused = match framed(room, 4097) {
+        Framed::Whole(_) => false,
+        Framed::Refused(k) => k == 3,
+    };
     judged(rt, c, refused, "frame of size 4,097: refusal 3")
 }

@@ -1,7 +1,7 @@
 // Payloads for a test: document 01's P with 83 and, under the key `x`, one value more; and what the walk answers.
 use crate::text;
-use element::Walked;
 use number::Number;
+use refusal::{Broken, Refusal};
 
 // Where the value stands.
 pub const VALUE: usize = 22;
@@ -51,25 +51,19 @@ pub fn with_hex(room: &mut [u8], s: &[u8]) -> usize {
 
 // Whether the walk over the first n bytes finds them whole with so many elements.
 pub fn is_whole(room: &[u8], n: usize, elements: usize) -> bool {
-    match walk::walk(text::part(room, 0, n)) {
-        Walked::Whole(c) => c == elements,
-        Walked::Refused(_, _) => false,
-    }
+    walk::walk(text::part(room, 0, n)) == Ok(elements)
 }
 
-// Whether the walk over the first n bytes refuses them with that number at that place.
-pub fn is_refused(room: &[u8], n: usize, number: u8, place: usize) -> bool {
-    match walk::walk(text::part(room, 0, n)) {
-        Walked::Whole(_) => false,
-        Walked::Refused(k, p) => { if k == number { p == place } else { false } }
-    }
+// Whether the walk over the first n bytes refuses them so at that place.
+pub fn is_refused(room: &[u8], n: usize, refusal: Refusal, place: usize) -> bool {
+    walk::walk(text::part(room, 0, n)) == Err(Broken { refusal, place })
 }
 
-// The number with which the walk refuses the first n bytes, or 0.
-pub fn refusal(room: &[u8], n: usize) -> u8 {
+// What the walk refuses the first n bytes with, if it does.
+pub fn refusal(room: &[u8], n: usize) -> Option<Refusal> {
     match walk::walk(text::part(room, 0, n)) {
-        Walked::Whole(_) => 0,
-        Walked::Refused(k, _) => k,
+        Ok(_) => None,
+        Err(b) => Some(b.refusal),
     }
 }
 

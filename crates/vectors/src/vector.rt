@@ -1,6 +1,7 @@
 // One vector: a line of the input, its payload, and what the walk and the number reader are to say of it.
 use crate::text::Figure;
 use crate::{payload, text};
+use refusal::Refusal;
 use std::io;
 
 // How many lines, cuts and numbers were tried, and how many answers were wrong.
@@ -127,11 +128,11 @@ fn form(rt: &impl Print, room: &[u8], n: usize, said: Said, tally: Tally) -> io:
         let t = judged(
             rt,
             tally,
-            payload::is_refused(room, n, 8, at),
+            payload::is_refused(room, n, Refusal::KeyNotText, at),
             "refusal 8 at",
             at as u64,
         )?;
-        let right = payload::is_refused(room, sum(n, 1), 8, at);
+        let right = payload::is_refused(room, sum(n, 1), Refusal::KeyNotText, at);
         return judged(rt, t, right, "refusal 8, with a byte added, at", at as u64);
     }
     let elements = sum(6, said.elements);
@@ -142,7 +143,7 @@ fn form(rt: &impl Print, room: &[u8], n: usize, said: Said, tally: Tally) -> io:
         "elements",
         elements as u64,
     )?;
-    let right = payload::is_refused(room, sum(n, 1), 10, n);
+    let right = payload::is_refused(room, sum(n, 1), Refusal::LeftOver, n);
     judged(rt, t, right, "refusal 10 at", n as u64)
 }
 
@@ -162,14 +163,32 @@ fn cuts(rt: &impl Print, room: &[u8], n: usize, said: Said, tally: Tally) -> io:
 fn cut(rt: &impl Print, room: &[u8], k: usize, at: usize, tally: Tally) -> io::Result<Tally> {
     let mut t = tally;
     t.cuts = text::next(t.cuts);
-    let number = payload::refusal(room, k);
+    let refusal = payload::refusal(room, k);
     if k == 0 {
-        return judged(rt, t, number == 3, "refusal 3 of the cut to", 0);
+        return judged(
+            rt,
+            t,
+            refusal == Some(Refusal::Size),
+            "refusal 3 of the cut to",
+            0,
+        );
     }
     if at < k {
-        return judged(rt, t, number == 8, "refusal 8 of the cut to", k as u64);
+        return judged(
+            rt,
+            t,
+            refusal == Some(Refusal::KeyNotText),
+            "refusal 8 of the cut to",
+            k as u64,
+        );
     }
-    judged(rt, t, number == 4, "refusal 4 of the cut to", k as u64)
+    judged(
+        rt,
+        t,
+        refusal == Some(Refusal::Cut),
+        "refusal 4 of the cut to",
+        k as u64,
+    )
 }
 
 // The value as a number.

@@ -141,7 +141,18 @@ module _ (b t : ℕ) where
   unfolding head_of lead_bytes row_in
   says_map u g h = says_in (λ k. row Map (two_to (k - 0xDD)) 0) 0xDE 2 tt b g (omega arith) _ (rw u)
 
-pub ruleset sayings = (says_low, says_high, says_nil, says_fixmap, says_fixarray, says_fixtext, says_never, says_bin, says_ext, says_number, says_fixext, says_text, says_array, says_map)
+-- the same of a head that the code has put together
+module _ (b t : ℕ) (r : Head) where
+  pub made_text : r ≡ row Text t 0 → t ≡ two_to (b - 0xD9) → 0xD9 ≤ b → b < 0xDC → Announces b r
+  made_text e u g h = rw e (says_text b t u g h)
+
+  pub made_array : r ≡ row Array t 0 → t ≡ two_to (b - 0xDB) → 0xDC ≤ b → b < 0xDE → Announces b r
+  made_array e u g h = rw e (says_array b t u g h)
+
+  pub made_map : r ≡ row Map t 0 → t ≡ two_to (b - 0xDD) → 0xDE ≤ b → b < 0xE0 → Announces b r
+  made_map e u g h = rw e (says_map b t u g h)
+
+pub ruleset sayings = (says_low, says_high, says_nil, says_fixmap, says_fixarray, says_fixtext, says_never, says_bin, says_ext, says_number, says_fixext, made_text, made_array, made_map)
 
 -- the tests for texts and maps, by ranges of lead bytes or of entries
 module _ (f : Shape → Bool) (h : ℕ → Head) (lo n : ℕ) where

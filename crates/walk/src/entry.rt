@@ -1,4 +1,4 @@
-// What an entry of the table of lead bytes says.
+// What an entry of the table says.
 ghost use Rattle.std.specs.Prelude.{◌≡◌, ◌≤◌};
 ghost use Rattle.element.specs.Form.{is_text, is_map};
 ghost use Rattle.walk.specs.Code.Table.{head_in};
@@ -6,41 +6,37 @@ ghost use Rattle.walk.specs.Code.Table.{head_in};
 use element::{Head, Shape};
 
 // The head: below C0 no bytes of length follow.
+#[tactic(auto, using(crate::proofs::Entries::heads))]
 pub fn head_in(e: u8) -> Head
     ensures { result ≡ head_in e }
 {
-    if e < 0x60 {
-        return Head {
+    match e {
+        0x00..=0x5F => Head {
             shape: Shape::Plain,
             wide: 0,
-            more: (e % 32) as usize,
-        };
-    }
-    if e < 0x80 {
-        return Head {
+            more: usize::from(e % 32),
+        },
+        0x60..=0x7F => Head {
             shape: Shape::Text,
             wide: 0,
-            more: (e - 0x60) as usize,
-        };
-    }
-    if e < 0xA0 {
-        return Head {
+            more: usize::from(e - 0x60),
+        },
+        0x80..=0x9F => Head {
             shape: Shape::Map,
             wide: 0,
-            more: (e - 0x80) as usize,
-        };
-    }
-    if e < 0xC0 {
-        return Head {
+            more: usize::from(e - 0x80),
+        },
+        0xA0..=0xBF => Head {
             shape: Shape::Array,
             wide: 0,
-            more: (e - 0xA0) as usize,
-        };
+            more: usize::from(e - 0xA0),
+        },
+        0xC0..=0xFF => sized_in(e),
     }
-    sized_in(e)
 }
 
 // The same with bytes of length: bin and ext, texts, arrays, maps.
+#[tactic(auto, using(crate::proofs::Entries::heads))]
 fn sized_in(e: u8) -> Head
     requires { 0xC0 ≤ e }
     ensures { result ≡ head_in e }
@@ -48,11 +44,11 @@ fn sized_in(e: u8) -> Head
     if 0xE0 < e {
         return Head {
             shape: Shape::Map,
-            wide: (e - 0xE0) as usize,
+            wide: usize::from(e - 0xE0),
             more: 0,
         };
     }
-    let wide = (e % 8) as usize;
+    let wide = usize::from(e % 8);
     if wide == 0 {
         return Head {
             shape: Shape::Never,
@@ -60,50 +56,35 @@ fn sized_in(e: u8) -> Head
             more: 0,
         };
     }
-    if e < 0xD0 {
-        return Head {
+    match e {
+        0x00..=0xCF => Head {
             shape: Shape::Plain,
             wide,
-            more: (e / 8 % 2) as usize,
-        };
-    }
-    if e < 0xD8 {
-        return Head {
+            more: usize::from(e / 8 % 2),
+        },
+        0xD0..=0xD7 => Head {
             shape: Shape::Text,
             wide,
             more: 0,
-        };
-    }
-    Head {
-        shape: Shape::Array,
-        wide,
-        more: 0,
+        },
+        0xD8..=0xFF => Head {
+            shape: Shape::Array,
+            wide,
+            more: 0,
+        },
     }
 }
 
+#[tactic(auto, using(crate::proofs::Entries::texts))]
 pub fn text_in(e: u8) -> bool
     ensures { result ≡ is_text (head_in e).shape }
 {
-    if e < 0x60 {
-        return false;
-    }
-    if e < 0x80 {
-        return true;
-    }
-    if e < 0xD1 {
-        return false;
-    }
-    if e < 0xD8 { true } else { false }
+    matches!(e, 0x60..=0x7F | 0xD1..=0xD7)
 }
 
+#[tactic(auto, using(crate::proofs::Entries::maps))]
 pub fn map_in(e: u8) -> bool
     ensures { result ≡ is_map (head_in e).shape }
 {
-    if e < 0x80 {
-        return false;
-    }
-    if e < 0xA0 {
-        return true;
-    }
-    if e < 0xE1 { false } else { true }
+    matches!(e, 0x80..=0x9F | 0xE1..=0xFF)
 }

@@ -25,14 +25,7 @@ pub fn octet_run(s: &[u8], at: usize, count: usize, left: usize, n: usize) -> Pa
 
 // A look at the first byte, for arrays of other parts: no container, text or float. Either answer is right.
 fn may_run(s: &[u8], at: usize) -> bool {
-    if s.len() <= at {
-        return false;
-    }
-    let b = s[at];
-    if b < 0x80 {
-        return true;
-    }
-    0xCC <= b
+    at < s.len() && matches!(s[at], 0x00..=0x7F | 0xCC..=0xFF)
 }
 
 // How many of n parts may be counted and have a level.
@@ -44,48 +37,44 @@ fn countable(count: usize, left: usize, n: usize) -> usize
     if left == 0 {
         return 0;
     }
-    if MOST_ELEMENTS <= count {
-        return 0;
-    }
-    let rest = MOST_ELEMENTS - count;
-    if rest < n { rest } else { n }
+    n.min(MOST_ELEMENTS.saturating_sub(count))
 }
 
 // Such parts among n: by eights, then one by one.
+#[tactic(auto, using(crate::proofs::Runs::passings))]
 fn octets_from(s: &[u8], at: usize, n: usize) -> Passed
     ensures { Passes s.now n at result.at result.parts }
 {
-    let run = eights(s, at, n);
-    let mut q = run.at;
-    let mut i = run.parts;
-    while i < n {
-        let p = octet_end(s, q);
-        if p == q {
-            return Passed { at: q, parts: i };
+    let mut run = eights(s, at, n);
+    for parts in run.parts..n {
+        let behind = octet_end(s, run.at);
+        if behind == run.at {
+            break;
         }
-        q = p;
-        i += 1;
+        run = Passed {
+            at: behind,
+            parts: parts + 1,
+        };
     }
-    Passed { at: q, parts: i }
+    run
 }
 
 // The place behind such a part; its own place where it is another, or where two bytes, enough for either, are not there.
+#[tactic(auto, using(crate::proofs::Runs::octet_ends))]
 fn octet_end(s: &[u8], at: usize) -> usize
     ensures { Follows s.now at result }
 {
-    if octets::is_there(s.len(), at, 2) {
-        let b = s[at];
-        if b < 0x80 {
-            return at + 1;
-        }
-        if b == 0xCC {
-            return at + 2;
-        }
+    if !octets::is_there(s.len(), at, 2) {
+        return at;
     }
-    at
+    match s[at] {
+        0x00..=0x7F => at + 1,
+        0xCC => at + 2,
+        _ => at,
+    }
 }
 
-// Many arrays begin with bytes below 0x80: these go by eights.
+// Many arrays begin with bytes below 0x80: these go by eights, until eight are not low.
 fn eights(s: &[u8], at: usize, n: usize) -> Passed
     ensures { Passes s.now n at result.at result.parts }
 {
@@ -99,11 +88,9 @@ fn eights(s: &[u8], at: usize, n: usize) -> Passed
 }
 
 // Eight parts more of n are left, and are bytes below 0x80.
+#[tactic(auto, using(crate::proofs::Runs::eights))]
 fn eight_more(s: &[u8], at: usize, n: usize) -> bool
     ensures { result ≡ eight_more s.now at n }
 {
-    if n < 8 {
-        return false;
-    }
-    octets::eight_low(s, at)
+    8 <= n && octets::eight_low(s, at)
 }

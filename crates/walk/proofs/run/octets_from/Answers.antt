@@ -3,5 +3,5 @@ use Rattle.walk.proofs.Runs.{passings}
 use Rattle.std.proofs.Common.{rules}
 use Rattle.walk.proofs.run.octets_from.Goals as goal
 
-pub loop-i-preserved : goal.loop-i-preserved
-loop-i-preserved c = search (passings, rules)
+pub loop-parts-preserved : goal.loop-parts-preserved
+loop-parts-preserved c = search (passings, rules)
