@@ -7,13 +7,6 @@ use lines::Took;
 use std::io::{Read, Write};
 use std::process::ExitCode;
 
-// The bytes at hand, and the next frame's number.
-#[derive(Clone, Copy)]
-struct State {
-    hand: Hand,
-    number: u64,
-}
-
 fn main(rt: HostRuntime) -> ExitCode {
     match frames(&mut rt.stdin(), &mut rt.stdout()) {
         Ok(()) => ExitCode::SUCCESS,
@@ -30,55 +23,28 @@ fn failed(rt: &impl Eprint, e: Failed) -> ExitCode {
     ExitCode::FAILURE
 }
 
-// A proved loop has to end, so it counts up to a number that no run reaches.
+// A proved loop has to end, so it counts up to a number that no run reaches; there is no input of 2^64 frames.
 fn frames<R: Read, W: Write>(input: &mut R, output: &mut W) -> Result<(), Failed> {
     let mut held = [0; 65536];
     let mut out = [0; 65536];
-    let mut state = State {
-        hand: hand::empty(),
-        number: 0,
-    };
+    let mut hand = Hand::empty();
+    let mut number: u64 = 0;
     for _ in 0..u64::MAX {
-        if state.hand.ended {
+        if hand.ended {
             break;
         }
-        step(input, output, &mut held, &mut out, &mut state)?;
+        let took = turn(&held, &mut out, hand, number);
+        if took.used != 0 {
+            number = number.saturating_add(1);
+        }
+        hand.turned(input, output, &mut held, &out, took)?;
     }
-    hand::flushed(output, &out, &mut state.hand)
+    hand.flushed(output, &out)
 }
 
-// One turn.
-fn step<R: Read, W: Write>(
-    input: &mut R,
-    output: &mut W,
-    held: &mut [u8],
-    out: &mut [u8],
-    s: &mut State,
-) -> Result<(), Failed> {
-    let took = turn(held, out, s);
-    s.number = count(s.number, took.used);
-    hand::turned(input, output, held, out, &mut s.hand, took)
-}
-
-fn turn(held: &[u8], out: &mut [u8], s: &State) -> Took {
-    let h = s.hand;
-    let filled = hand::at_most(h.filled, out.len());
-    lines::turn(
-        hand::part(held, h.from, h.to),
-        h.last,
-        s.number,
-        &mut out[filled..],
-    )
-}
-
-// Whole frames so far; there is no input of 2^64 of them.
-fn count(number: u64, used: usize) -> u64 {
-    if used == 0 {
-        return number;
-    }
-    if number < u64::MAX {
-        number + 1
-    } else {
-        number
-    }
+// One turn over the bytes at hand.
+fn turn(held: &[u8], out: &mut [u8], hand: Hand, number: u64) -> Took {
+    let bytes = hand::part(held, hand.from, hand.to);
+    let filled = hand.filled.min(out.len());
+    lines::turn(bytes, hand.last, number, &mut out[filled..])
 }

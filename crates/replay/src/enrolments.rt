@@ -22,7 +22,7 @@ pub fn enrol_all<R: Read, W: Write>(
     heards: &mut [u64],
 ) -> Result<bool, Failed> {
     let mut s = Enrolling {
-        hand: hand::empty(),
+        hand: Hand::empty(),
         complete: false,
     };
     for _ in 0..u64::MAX {
@@ -33,7 +33,7 @@ pub fn enrol_all<R: Read, W: Write>(
             enrolments, output, held, out, used, euis, shorts, lasts, heards, &mut s,
         )?;
     }
-    hand::flushed(output, out, &mut s.hand)?;
+    s.hand.flushed(output, out)?;
     Ok(s.complete)
 }
 
@@ -51,7 +51,7 @@ fn enrol<R: Read, W: Write>(
     s: &mut Enrolling,
 ) -> Result<(), Failed> {
     let h = s.hand;
-    let filled = hand::at_most(h.filled, out.len());
+    let filled = h.filled.min(out.len());
     let took = day::enrol(
         hand::part(held, h.from, h.to),
         h.last,
@@ -63,5 +63,5 @@ fn enrol<R: Read, W: Write>(
         &mut out[filled..],
     );
     s.complete = took.ended & (took.length == 0);
-    hand::turned(enrolments, output, held, out, &mut s.hand, took)
+    s.hand.turned(enrolments, output, held, out, took)
 }

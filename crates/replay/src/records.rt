@@ -30,7 +30,7 @@ pub fn play_all<R: Read, W: Write>(
 ) -> Result<(), Failed> {
     let sessions = &mut [0; SESSIONS];
     let s = &mut Playing {
-        hand: hand::empty(),
+        hand: Hand::empty(),
         started: false,
         sum: 0,
         records: 0,
@@ -44,7 +44,7 @@ pub fn play_all<R: Read, W: Write>(
         )?;
         crate::progress::tell(told, turn, s.records);
     }
-    hand::flushed(output, out, &mut s.hand)
+    s.hand.flushed(output, out)
 }
 
 // One turn over the trace.
@@ -66,7 +66,7 @@ fn play<R: Read, W: Write>(
     );
     s.records = count(s.records, s.started, took.used);
     s.started = s.started | (took.used != 0);
-    hand::turned(trace, output, held, out, &mut s.hand, took)
+    s.hand.turned(trace, output, held, out, took)
 }
 
 // The start of the trace, then record by record.
@@ -83,7 +83,7 @@ fn turn(
     heards: &mut [u64],
     h: Hand,
 ) -> Took {
-    let filled = hand::at_most(h.filled, out.len());
+    let filled = h.filled.min(out.len());
     let bytes = hand::part(held, h.from, h.to);
     if !started {
         return day::start(bytes, h.last, &mut out[filled..]);

@@ -22,7 +22,10 @@ fn main(rt: HostRuntime) -> io::Result<()> {
         println!(rt; "the input is longer than the buffer")?;
     }
     let tally = vectors(&rt, &input[..n], &mut room)?;
-    vector::print(&rt, tally)?;
+    println!(rt;
+        "{} vectors, {} cuts, {} numbers, {} wrong",
+        tally.lines, tally.cuts, tally.numbers, tally.wrong
+    )?;
     limits::run(&rt, &mut room)
 }
 
@@ -43,12 +46,9 @@ fn read_full<R: Read>(reader: &mut R, buf: &mut [u8]) -> io::Result<usize>
 
 // Every line of the input.
 fn vectors(rt: &impl Print, input: &[u8], room: &mut [u8]) -> io::Result<Tally> {
-    let mut tally = vector::none();
-    let mut from = 0;
-    while from < input.len() {
-        let end = text::line_end(input, from);
-        tally = vector::line(rt, text::part(input, from, end), room, tally)?;
-        from = end + 1;
+    let mut tally = Tally::default();
+    for line in input.split_inclusive(|b| *b == b'\n') {
+        tally.line(rt, line.strip_suffix(b"\n").unwrap_or(line), room)?;
     }
     Ok(tally)
 }

@@ -1,118 +1,41 @@
 // Payloads for a test: document 01's P with 83 and, under the key `x`, one value more; and what the walk answers.
 use crate::text;
-use number::Number;
 use refusal::{Broken, Refusal};
+
+// P's two pairs and the key.
+pub const START: [u8; 22] = *b"\x83\xA7command\xA4ping\xA4opId\x01\xA1x";
 
 // Where the value stands.
 pub const VALUE: usize = 22;
 
-// P's two pairs and the key.
-pub fn start(room: &mut [u8]) {
-    copy(room, b"\x83\xA7command\xA4ping\xA4opId\x01\xA1x");
-}
-
-// The bytes at the start of the room, as many as it has.
-pub fn copy(room: &mut [u8], s: &[u8]) {
-    let mut i = 0;
-    while i < s.len() {
-        put(room, i, s[i]);
-        i += 1;
+// P with the value that a text says in hex, and a zero behind it; none where the text is not that, or the room too small.
+pub fn with_value<'a>(room: &'a mut [u8], hex: &[u8]) -> Option<&'a [u8]> {
+    let n = hex.len() / 2;
+    if hex.is_empty() || hex.len() % 2 != 0 || room.len() <= VALUE + n {
+        return None;
     }
-}
-
-// A byte at a place that the room has.
-pub fn put(room: &mut [u8], at: usize, b: u8) {
-    if at < room.len() {
-        room[at] = b;
+    room[..VALUE].copy_from_slice(&START);
+    for (to, pair) in room[VALUE..].iter_mut().zip(hex.chunks_exact(2)) {
+        *to = u8::try_from(text::number_of(pair, 16)?).ok()?;
     }
+    room[VALUE + n] = 0;
+    Some(&room[..=VALUE + n])
 }
 
-// P with the value that a text says in hex: the payload's size, or 0 where the text is not that, or the room too small.
-pub fn with_hex(room: &mut [u8], s: &[u8]) -> usize {
-    let n = s.len() / 2;
-    if s.len() != n * 2 {
-        return 0;
-    }
-    if n == 0 {
-        return 0;
-    }
-    start(room);
-    let mut k = 0;
-    while k < n {
-        let f = text::number_of(text::part(s, k * 2, k * 2 + 2), true);
-        if !f.good {
-            return 0;
-        }
-        put(room, VALUE + k, (f.x % 256) as u8);
-        k += 1;
-    }
-    if room.len() < VALUE + n { 0 } else { VALUE + n }
+// Whether the walk over a payload finds it whole with so many elements.
+pub fn holds(payload: &[u8], elements: usize) -> bool {
+    walk::walk(payload) == Ok(elements)
 }
 
-// Whether the walk over the first n bytes finds them whole with so many elements.
-pub fn is_whole(room: &[u8], n: usize, elements: usize) -> bool {
-    walk::walk(text::part(room, 0, n)) == Ok(elements)
+// Whether the walk over a payload refuses it so at that place.
+pub fn refuses(payload: &[u8], refusal: Refusal, place: usize) -> bool {
+    walk::walk(payload) == Err(Broken { refusal, place })
 }
 
-// Whether the walk over the first n bytes refuses them so at that place.
-pub fn is_refused(room: &[u8], n: usize, refusal: Refusal, place: usize) -> bool {
-    walk::walk(text::part(room, 0, n)) == Err(Broken { refusal, place })
-}
-
-// What the walk refuses the first n bytes with, if it does.
-pub fn refusal(room: &[u8], n: usize) -> Option<Refusal> {
-    match walk::walk(text::part(room, 0, n)) {
+// With what the walk refuses a payload.
+pub fn refusal(payload: &[u8]) -> Option<Refusal> {
+    match walk::walk(payload) {
         Ok(_) => None,
-        Err(b) => Some(b.refusal),
-    }
-}
-
-// Whether the value is that number; below 0 where `minus`.
-pub fn is_whole_number(room: &[u8], n: usize, minus: bool, x: u64) -> bool {
-    match number::number_at(text::part(room, 0, n), VALUE) {
-        Number::Unsigned(u) => { if minus { false } else { u == x } }
-        Number::Signed(z) => { if minus { is_minus(z, x) } else { false } }
-        Number::Real(_) => false,
-        Number::Not => false,
-    }
-}
-
-// Whether z is -x, which is below 0.
-fn is_minus(z: i64, x: u64) -> bool {
-    if x == 0 {
-        return false;
-    }
-    let k = x - 1;
-    if 0x7FFF_FFFF_FFFF_FFFF < k {
-        return false;
-    }
-    z == -1 - (k as i64)
-}
-
-// Whether the value is a real of these bits.
-pub fn is_real(room: &[u8], n: usize, bits: u64) -> bool {
-    match number::number_at(text::part(room, 0, n), VALUE) {
-        Number::Unsigned(_) => false,
-        Number::Signed(_) => false,
-        Number::Real(x) => has_bits(x, bits),
-        Number::Not => false,
-    }
-}
-
-// A NaN is no real, and has no bits of its own.
-fn has_bits(x: f64, bits: u64) -> bool {
-    if x == x {
-        return f64::to_bits(x) == bits;
-    }
-    false
-}
-
-// Whether the value is no number.
-pub fn is_none(room: &[u8], n: usize) -> bool {
-    match number::number_at(text::part(room, 0, n), VALUE) {
-        Number::Unsigned(_) => false,
-        Number::Signed(_) => false,
-        Number::Real(_) => false,
-        Number::Not => true,
+        Err(broken) => Some(broken.refusal),
     }
 }
