@@ -6,9 +6,6 @@ use Prim.Native.Nat.{ℕ, zero, suc, ◌+◌, ◌≤◌}
 use native.Mathlib.Omega.{arith}
 use lib.Dec.{T, leb, eqb, leb→le}
 use lib.{IntN.ℤ, IntN.pos, IntN.negsuc, ListN.length, ListN.take, ListN.length-append, Seq.length-take-le}
-use mir.Syntax.{w64}
-use mir.Val.{to_z, of_z, SFits}
-use mir.ValLaws.{to_z-of_z}
 use Rattle.octets.specs.{Choice.either, Bytes.put_at}
 use Rattle.octets.proofs.{Ranges.both_left, Ranges.both_right, Writing.put_upto, Writing.length_put}
 use Rattle.forms.specs.Code.Put.{Put, put, put_parts, joined}
@@ -110,15 +107,15 @@ module _ (ps : List (List ℕ)) (l : List ℕ) (same : joined ps ≡ l) (few : l
   made_put o a e = e ∙ ap (λ (x : List ℕ). put_parts (x ∷ []) o) taken
 
 module _ (d : List ℕ) (h : length d ≡ 80) (v : Put) (number : ℕ) where
-  module _ (refusal command : ℕ) (id : ℤ) (m : SFits w64 id) (p : v ≡ put_parts (line_parts number refusal command (to_z w64 (of_z w64 id))) (put d 0)) where
+  module _ (refusal command : ℕ) (id : ℤ) (p : v ≡ put_parts (line_parts number refusal command id) (put d 0)) where
     pub line_size : v.next ≤ length v.room
-    line_size = made_size (line_parts number refusal command id) (line_for number refusal command id) (joined_line number refusal command id) (few_line number refusal command id) d h v (rw (to_z-of_z w64 id m) at p)
+    line_size = made_size (line_parts number refusal command id) (line_for number refusal command id) (joined_line number refusal command id) (few_line number refusal command id) d h v p
 
     pub line_taken : v.next ≡ length (take v.next v.room)
-    line_taken = made_taken (line_parts number refusal command id) (line_for number refusal command id) (joined_line number refusal command id) (few_line number refusal command id) d h v (rw (to_z-of_z w64 id m) at p)
+    line_taken = made_taken (line_parts number refusal command id) (line_for number refusal command id) (joined_line number refusal command id) (few_line number refusal command id) d h v p
 
     pub line_made : (o a : Put) → a ≡ put_parts (take v.next v.room ∷ []) o → a ≡ put_parts (line_for number refusal command id ∷ []) o
-    line_made = made_put (line_parts number refusal command id) (line_for number refusal command id) (joined_line number refusal command id) (few_line number refusal command id) d h v (rw (to_z-of_z w64 id m) at p)
+    line_made = made_put (line_parts number refusal command id) (line_for number refusal command id) (joined_line number refusal command id) (few_line number refusal command id) d h v p
 
   module _ (p : v ≡ put_parts (counted_parts (bytes "frames ") number) (put d 0)) where
     pub end_size : v.next ≤ length v.room

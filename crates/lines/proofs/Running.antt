@@ -8,13 +8,13 @@ use native.Mathlib.Omega.{arith}
 use lib.{Dec.eqb, ListN.length, ListN.length-append}
 use borrow.Author.Tests.{ne_eqb, eqb-true, eqb-false}
 use Rattle.octets.proofs.Ranges.{true_false}
-use Rattle.std.specs.Prelude.{Ok, Err}
-use Rattle.refusal.specs.Number.{number_of}
+use Rattle.std.specs.Prelude.{Result, Ok, Err}
+use Rattle.refusal.specs.{Number.number_of, declared.Broken.Broken, declared.Refusal.Refusal}
 use Rattle.frame.specs.Frame.{Framed, identifier, agrees, size_of, framed_of, payload_of, used_of, frame_refusal}
 use Rattle.frame.proofs.{Format.refused_number, Format.whole_size, Used.used_within}
-use Rattle.record.specs.{declared.Told.Told, Meant.refused_at}
+use Rattle.record.specs.{declared.Counted.Counted, Meant.Meant}
 use Rattle.turns.{specs.Turns.Turn, proofs.Steady.Steady}
-use Rattle.reading.specs.declared.Unframed.{Unframed}
+use Rattle.reading.{specs.declared.Unframed.Unframed, proofs.Framing.refused_meant}
 use Rattle.lines.specs.{Means.scratch, Means.Means, Lines.line_of, Lines.end_line, Lines.stop_lines}
 use Rattle.lines.specs.{Turn.printed_refused, Turn.printed_of, Runs.numbered, Runs.OneTurn}
 use Rattle.lines.proofs.{Meaning.told_means, Meaning.framed_once, Straddle.straddles, Straddle.payload_straddles}
@@ -36,13 +36,13 @@ module _ (s : List ℕ) (z : frame_refusal (framed_of s) ≡ 0) where
   pub uses_some : used_of (framed_of s) ≡ 0 → ⊥
   uses_some y = omega (arith, ap used_of whole_framed)
 
-uses_none : (f : Framed) → (frame_refusal f ≡ 0 → ⊥) → 0 ≡ used_of f
-uses_none (Ok k) z = absurd (z refl)
-uses_none (Err k) z = refl
+refused_by : (f : Framed) → (frame_refusal f ≡ 0 → ⊥) → (k : Refusal) × (f ≡ Err k)
+refused_by (Ok k) z = absurd (z refl)
+refused_by (Err k) z = (k, refl)
 
 -- what a turn prints: a line, nothing yet, the end, or a stop
 pub data Way : Bool → ℕ → List ℕ → Turn ℕ → Type 0 where
-  line : (last : Bool) (n : ℕ) (h : List ℕ) (t : Told) → frame_refusal (framed_of h) ≡ 0 → Means (payload_of (size_of h) h) t
+  line : (last : Bool) (n : ℕ) (h : List ℕ) (t : Result Counted Broken) → frame_refusal (framed_of h) ≡ 0 → Means (payload_of (size_of h) h) t
       → Way last n h (record { used = used_of (framed_of h); text = line_of n t; ended = false; state = suc n })
   wait : (n : ℕ) (h : List ℕ) → frame_refusal (framed_of h) ≡ 1 → Way false n h (record { used = 0; text = []; ended = false; state = n })
   end : (n : ℕ) → Way true n [] (record { used = 0; text = end_line n; ended = true; state = n })
@@ -54,16 +54,28 @@ refused_turn : (last : Bool) (n : ℕ) (h : List ℕ) (t : Turn ℕ) → (frame_
     → t ≡ numbered n (printed_refused last n (length h) (frame_refusal (framed_of h))) → OneTurn last n h t
 unfolding printed_of
 refused_turn last n h t z q = record {
-  frame = record { used = 0; told = refused_at (frame_refusal (framed_of h)) 0 };
-  meant = record { lent = scratch; meant = record { used = uses_none (framed_of h) z; refused = λ y. refl; whole = λ y. absurd (z y) } };
-  same = q;
+  frame = record { used = 0; told = Err (record { refusal = k.0; place = 0 }) };
+  meant = record { lent = scratch; meant = refused_meant h scratch k.0 k.1 (Err (record { refusal = k.0; place = 0 })) refl };
+  same = q ∙ ap (λ (f : Framed). numbered n (printed_refused last n (length h) (frame_refusal f))) k.1;
 }
+  where
+    k : (k : Refusal) × (framed_of h ≡ Err k)
+    k = refused_by (framed_of h) z
 
 pub way_turn : (last : Bool) (n : ℕ) (h : List ℕ) (t : Turn ℕ) → Way last n h t → OneTurn last n h t
 unfolding printed_of printed_refused
 way_turn last n h t (Way.line l m g told e w) = record {
   frame = record { used = used_of (framed_of h); told = told };
-  meant = record { lent = w.lent; meant = record { used = refl; refused = λ z. absurd (z e); whole = λ z. w.meant } };
+  meant = record {
+    lent = w.lent;
+    meant = record {
+      used = refl;
+      refused = λ k f. absurd (cc (sym (whole_framed h e) ∙ f));
+      whole = λ k f.
+          let same : size_of h ≡ k = cc (sym (whole_framed h e) ∙ f) in
+          subst (λ (x : ℕ). Meant (payload_of x h) scratch (record { told = told; lent = w.lent })) same w.meant;
+    };
+  };
   same = simp (ne_eqb (used_of (framed_of h)) 0 (uses_some h e));
 }
 way_turn last n h t (Way.wait m g e) = refused_turn false n h t (λ z. let i : 1 ≡ 0 = sym e ∙ z in omega arith) (simp e)

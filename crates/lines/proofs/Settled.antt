@@ -8,7 +8,7 @@ use Rattle.octets.{specs.Bytes.put_at, proofs.Writing.put_upto}
 use Rattle.frame.specs.Frame.{framed_of, frame_refusal}
 use Rattle.forms.specs.Code.Put.{Put, put, put_parts}
 use Rattle.forms.proofs.Putting.{one_in}
-use Rattle.record.specs.Record.{command_in}
+use Rattle.record.specs.{Record.command_in, Meant.refusal_told, Meant.message_told}
 use Rattle.turns.specs.Turns.{Turn}
 use Rattle.lines.specs.{Turn.Printed, Turn.printed_of, Turn.Turned, Runs.numbered, Runs.OneTurn, declared.Took.Took}
 use Rattle.lines.proofs.{Meaning.framed_once, Made.few_line, Made.few_end, Made.few_stop, Running.Way, Running.turn_way}
@@ -36,7 +36,7 @@ module _ (s : List ℕ) (last : Bool) (number : ℕ) (before : List ℕ) where
 
 -- every text is short
 few : (last : Bool) (n : ℕ) (h : List ℕ) (t : Turn ℕ) → Way last n h t → length t.text ≤ 80
-few last n h t (Way.line l m g told e w) = few_line n told.refusal (command_in told.message.body) told.message.op_id
+few last n h t (Way.line l m g told e w) = few_line n (refusal_told told) (command_in (message_told told).body) (message_told told).op_id
 few last n h t (Way.wait m g e) = omega arith
 few last n h t (Way.end m) = few_end n
 few last n h t (Way.stop l m g s z c) = few_stop n (frame_refusal (framed_of h))

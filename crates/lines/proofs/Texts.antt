@@ -19,6 +19,9 @@ use Rattle.forms.specs.Code.Put.{Put, put, put_part, put_parts}
 use Rattle.forms.proofs.{Putting.parts_then, Signs.turn_below, Signs.whole64}
 use Rattle.names.specs.Names.{bytes, same_bytes, commands, name_at}
 use Rattle.names.proofs.Same.{same_eq}
+use Rattle.std.specs.Prelude.{Result, Ok, Err}
+use Rattle.refusal.specs.{Number.number_of, declared.Broken.Broken}
+use Rattle.record.specs.{declared.Counted.Counted, Record.command_in, Meant.refusal_told, Meant.message_told}
 use Rattle.lines.specs.Lines.{newline}
 use Rattle.lines.specs.Code.Parts.{decimal_parts, signed_parts, counted_parts, named_parts, message_parts, line_parts, stop_parts}
 
@@ -109,14 +112,21 @@ message_put o b c a command id m e f g =
     parts_then (named_parts command) (signed_parts id ++ (newline ∷ [])) o b a e
     (parts_then (signed_parts id) (newline ∷ []) b c a (rw (to_z-of_z w64 id m) at f) g)
 
-module _ (o b a : Put) (number refusal command : ℕ) (id : ℤ) (e : b ≡ put_parts (decimal_parts number) o) where
-  pub line_read : SFits w64 id → refusal ≡ 0 → a ≡ put_parts (message_parts command (back w64 id)) b → a ≡ put_parts (line_parts number refusal command id) o
-  unfolding line_parts
-  line_read m z f = simp (eq-eqb refusal 0 z) (parts_then (decimal_parts number) (message_parts command id) o b a e (rw (to_z-of_z w64 id m) at f))
+abbrev line_told : ℕ → Result Counted Broken → List (List ℕ)
+line_told number t = line_parts number (refusal_told t) (command_in (message_told t).body) (message_told t).op_id
 
-  pub line_refused : (refusal ≡ 0 → ⊥) → a ≡ put_parts (counted_parts (bytes " refused ") refusal) b → a ≡ put_parts (line_parts number refusal command id) o
+module _ (o b a : Put) (number : ℕ) (t : Result Counted Broken) (e : b ≡ put_parts (decimal_parts number) o) where
+  pub line_read : (x : Counted) → t ≡ Ok x → SFits w64 x.message.op_id → (c : ℕ) → c ≡ command_in x.message.body
+      → a ≡ put_parts (message_parts c (back w64 x.message.op_id)) b → a ≡ put_parts (line_told number t) o
   unfolding line_parts
-  line_refused z f = simp (ne_eqb refusal 0 z) (parts_then (decimal_parts number) (counted_parts (bytes " refused ") refusal) o b a e f)
+  line_read x h m c q f =
+      rw (h, ← q) (parts_then (decimal_parts number) (message_parts c x.message.op_id) o b a e (rw (to_z-of_z w64 x.message.op_id m) at f))
+
+  pub line_refused : (x : Broken) → t ≡ Err x → (n : ℕ) → n ≡ number_of x.refusal → 1 ≤ n → a ≡ put_parts (counted_parts (bytes " refused ") n) b
+      → a ≡ put_parts (line_told number t) o
+  unfolding line_parts
+  line_refused x h n q l f =
+      rw (h, ← q) (simp (ne_eqb n 0 (λ z. omega arith)) (parts_then (decimal_parts number) (counted_parts (bytes " refused ") n) o b a e f))
 
 pub ruleset lined = (line_read, line_refused)
 

@@ -2,16 +2,13 @@
 use mathlib.Core.{Path.◌≡◌, Path.refl, Path.sym, List.List, List.[], List.◌∷◌}
 use mathlib.Core.Bool.{Bool, true, false, ◌&&◌, not}
 use Prim.Native.Nat.{ℕ, ◌<◌}
-use lib.{Dec.eqb, ListN.length, Signed.mag}
-use mir.Syntax.{w64}
-use mir.Val.{to_z, of_z}
-use mir.ValLaws.{to_z-of_z}
+use lib.{Dec.eqb, ListN.length}
 use borrow.Author.Tests.{eq-eqb, ne_eqb}
 use Rattle.forms.specs.Code.Put.{put, put_parts}
 use Rattle.reading.specs.declared.Unframed.{Unframed}
-use Rattle.record.specs.Record.{command_in}
+use Rattle.record.specs.Meant.{refusal_told}
 use Rattle.reading.specs.Framed.{MeantFramed}
-use Rattle.lines.specs.{Means.scratch, Lines.line_for, Lines.end_line, Lines.stop_lines}
+use Rattle.lines.specs.{Means.scratch, Lines.line_of, Lines.end_line, Lines.stop_lines}
 use Rattle.lines.specs.declared.Took.{Took}
 use Rattle.lines.specs.Turn.{printed_refused, printed_of, Shows, Turned}
 use Rattle.lines.proofs.Texts.{none_put}
@@ -43,18 +40,17 @@ module _ (last : Bool) (number len refusal : ℕ) (d : List ℕ) (w : Bool) (q :
 pub ruleset shown = (shows_wait, shows_end, shows_stop)
 
 module _ (s : List ℕ) (last : Bool) (number : ℕ) (d e : List ℕ) (u : Unframed) (lent : List ℕ) (m : MeantFramed s scratch u lent) where
-  pub turned_refused : u.used ≡ 0 → (r : Took) → Shows (printed_refused last number (length s) u.told.refusal) d e r → Turned s last number d e r
+  pub turned_refused : u.used ≡ 0 → (k : ℕ) → k ≡ refusal_told u.told → (r : Took) → Shows (printed_refused last number (length s) k) d e r → Turned s last number d e r
   unfolding printed_of
-  turned_refused z r h = record { frame = u; meant = record { lent = lent; meant = m }; shows = simp (eq-eqb u.used 0 z) h }
+  turned_refused z k q r h = record { frame = u; meant = record { lent = lent; meant = m }; shows = simp (eq-eqb u.used 0 z) (rw q at h) }
 
-  pub turned_line : (u.used ≡ 0 → ⊥) → mag u.told.message.op_id < 0x8000000000000000 → (c : ℕ) → c ≡ command_in u.told.message.body → (n : ℕ)
-      → put e n ≡ put_parts (line_for number u.told.refusal c (to_z w64 (of_z w64 u.told.message.op_id)) ∷ []) (put d 0)
+  pub turned_line : (u.used ≡ 0 → ⊥) → (n : ℕ) → put e n ≡ put_parts (line_of number u.told ∷ []) (put d 0)
       → Turned s last number d e (record { used = u.used; length = n; ended = false })
   unfolding printed_of
-  turned_line z l c q n h = record {
+  turned_line z n h = record {
     frame = u;
     meant = record { lent = lent; meant = m };
-    shows = simp (ne_eqb u.used 0 z) (record { used = refl; ended = refl; printed = rw (to_z-of_z w64 u.told.message.op_id (record { sfits = l }), q) at h });
+    shows = simp (ne_eqb u.used 0 z) (record { used = refl; ended = refl; printed = h });
   }
 
 pub ruleset turned = (turned_refused, turned_line)

@@ -1,12 +1,13 @@
 -- Document 01, "Program": the lines that are printed. Per frame its number from 0, then command and opId, or `refused` and the number; last
 -- `frames` and the count of whole frames.
-use Rattle.std.specs.Prelude.{ℕ, suc, List, [], ◌∷◌, ◌++◌}
+use Rattle.std.specs.Prelude.{ℕ, suc, List, [], ◌∷◌, ◌++◌, Result}
+use Rattle.refusal.specs.declared.Broken.{Broken}
 use lib.{Dec.eqb, IntN.ℤ, IntN.pos, IntN.negsuc}
 use Rattle.octets.specs.Choice.{either}
 use Rattle.forms.specs.Shortest.{digits_of}
 use Rattle.names.specs.Names.{bytes, commands, name_at}
-use Rattle.record.specs.declared.Told.{Told}
-use Rattle.record.specs.Record.{command_in}
+use Rattle.record.specs.declared.Counted.{Counted}
+use Rattle.record.specs.{Record.command_in, Meant.refusal_told, Meant.message_told}
 
 -- a number below 2^64 has at most 20 decimal digits
 abbrev pub decimal : ℕ → List ℕ
@@ -32,8 +33,8 @@ unfoldable pub line_for : ℕ → ℕ → ℕ → ℤ → List ℕ
 line_for number refusal command id = decimal number ++ outcome refusal command id
 
 -- the line of a whole frame
-abbrev pub line_of : ℕ → Told → List ℕ
-line_of number t = line_for number t.refusal (command_in t.message.body) t.message.op_id
+abbrev pub line_of : ℕ → Result Counted Broken → List ℕ
+line_of number t = line_for number (refusal_told t) (command_in (message_told t).body) (message_told t).op_id
 
 -- the last line: so many whole frames
 unfoldable pub end_line : ℕ → List ℕ

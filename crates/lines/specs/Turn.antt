@@ -4,6 +4,7 @@ use Rattle.std.specs.Prelude.{ℕ, Bool, true, false, ◌&&◌, not}
 use lib.{Dec.eqb, ListN.length}
 use Rattle.octets.specs.Choice.{either}
 use Rattle.forms.specs.Code.Put.{Put, put, put_parts}
+use Rattle.record.specs.Meant.{refusal_told}
 use Rattle.reading.specs.declared.Unframed.{Unframed}
 use Rattle.lines.specs.{Means.MeansFramed, Lines.line_of, Lines.end_line, Lines.stop_lines}
 use Rattle.lines.specs.declared.Took.{Took}
@@ -24,7 +25,7 @@ printed_refused last number len refusal =
 -- by what is read at the start of those bytes: a whole frame uses some
 unfoldable pub printed_of : Bool → ℕ → ℕ → Unframed → Printed
 printed_of last number len u =
-    either (eqb u.used 0) (λ _. printed_refused last number len u.told.refusal)
+    either (eqb u.used 0) (λ _. printed_refused last number len (refusal_told u.told))
     (λ _. record { used = u.used; text = line_of number u.told; ended = false })
 
 -- the text stands at the start of the room, where there is room for all of it

@@ -6,8 +6,12 @@ mod text;
 ghost use mathlib.Core.{Path.◌≡◌, Bool.◌&&◌, Bool.not, List.[], List.◌∷◌};
 ghost use Rattle.std.specs.Prelude.{eqb};
 ghost use Rattle.forms.specs.Code.Put.{Put, put, put_parts};
-ghost use Rattle.lines.specs.{Lines.line_for, Lines.end_line, Lines.stop_lines, Turn.printed_refused, Turn.Shows, Turn.Turned};
+ghost use Rattle.record.specs.Meant.{refusal_told};
+ghost use Rattle.lines.specs.{Lines.line_of, Lines.end_line, Lines.stop_lines, Turn.printed_refused, Turn.Shows, Turn.Turned};
 
+use reading::Unframed;
+use record::Counted;
+use refusal::Broken;
 pub use text::put_counted;
 
 // How many of the bytes at hand are used, how many of the room's are to be printed, and whether they are the last.
@@ -24,21 +28,24 @@ pub fn turn(bytes: &[u8], last: bool, number: u64, room: &mut [u8]) -> Took
     ensures { Turned bytes.now last number room.old room.new result }
 {
     let mut lent = [0u8; 880];
-    let u = reading::read_framed(bytes, &mut lent);
-    let used = u.used;
-    let told = u.told;
-    let refusal = told.refusal;
+    let Unframed { used, told } = reading::read_framed(bytes, &mut lent);
     if used == 0 {
-        return refused(room, last, number, bytes.len(), refusal);
+        return refused(room, last, number, bytes.len(), number_in(told));
     }
-    let m = told.message;
-    let op_id = m.op_id;
-    let b = m.body;
-    let length = line(room, number, refusal, record::command_in(b), op_id);
     Took {
-        used: used,
-        length: length,
+        used,
+        length: line(room, number, told),
         ended: false,
+    }
+}
+
+// Document 01's number of a refusal, 0 of a record.
+fn number_in(told: Result<Counted, Broken>) -> u8
+    ensures { result ≡ refusal_told told }
+{
+    match told {
+        Ok(_) => 0,
+        Err(broken) => broken.refusal.number(),
     }
 }
 
@@ -60,7 +67,7 @@ fn refused(room: &mut [u8], last: bool, number: u64, len: usize, refusal: u8) ->
     };
     Took {
         used: 0,
-        length: length,
+        length,
         ended: true,
     }
 }
@@ -68,15 +75,15 @@ fn refused(room: &mut [u8], last: bool, number: u64, len: usize, refusal: u8) ->
 fn waits(refusal: u8, last: bool) -> bool
     ensures { result ≡ eqb refusal 1 && not last }
 {
-    if refusal == 1 { !last } else { false }
+    refusal == 1 && !last
 }
 
 // The line of a whole frame at the start of the room.
-fn line(room: &mut [u8], number: u64, refusal: u8, command: u8, op_id: i64) -> usize
-    ensures { ◌≡◌ {A = Put} (put room.new result) (put_parts (line_for number refusal command op_id ∷ []) (put room.old 0)) }
+fn line(room: &mut [u8], number: u64, told: Result<Counted, Broken>) -> usize
+    ensures { ◌≡◌ {A = Put} (put room.new result) (put_parts (line_of number told ∷ []) (put room.old 0)) }
 {
     let mut text = [0u8; 80];
-    let n = text::put_line(&mut text, number, refusal, command, op_id);
+    let n = text::put_line(&mut text, number, told);
     forms::put_run(room, 0, &text[..n])
 }
 

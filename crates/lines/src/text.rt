@@ -1,10 +1,13 @@
 // The text of a line, part by part. Each call answers the place behind what it wrote.
 ghost use mathlib.Core.{Path.◌≡◌, List.[], List.◌∷◌};
 ghost use Rattle.forms.specs.Code.Put.{Put, put, put_parts};
-ghost use Rattle.names.specs.Names.{commands, name_at};
+ghost use Rattle.names.specs.Names.{bytes, commands, name_at};
+ghost use Rattle.record.specs.{Record.command_in, Meant.refusal_told, Meant.message_told};
 ghost use Rattle.lines.specs.Code.Parts.{signed_parts, counted_parts, named_parts, message_parts, line_parts, stop_parts};
 
 use forms::{put_digits, put_run};
+use record::Counted;
+use refusal::Broken;
 
 // A number below 2^64 has at most so many decimal digits.
 const DIGITS: u8 = 20;
@@ -66,20 +69,31 @@ fn put_message(room: &mut [u8], at: usize, command: u8, op_id: i64) -> usize
     put_run(room, end, b"\n")
 }
 
-pub fn put_line(room: &mut [u8], number: u64, refusal: u8, command: u8, op_id: i64) -> usize
-    ensures { ◌≡◌ {A = Put} (put room.new result) (put_parts (line_parts number refusal command op_id) (put room.old 0)) }
+pub fn put_line(room: &mut [u8], number: u64, told: Result<Counted, Broken>) -> usize
+    ensures { ◌≡◌ {A = Put} (put room.new result)
+        (put_parts (line_parts number (refusal_told told) (command_in (message_told told).body) (message_told told).op_id) (put room.old 0)) }
 {
     let next = put_digits(room, 0, DIGITS, number);
-    if refusal == 0 {
-        return put_message(room, next, command, op_id);
+    match told {
+        Ok(x) => {
+            let m = x.message;
+            put_message(room, next, record::command_in(m.body), m.op_id)
+        }
+        Err(broken) => put_refused(room, next, broken.refusal.number()),
     }
-    put_counted(room, next, b" refused ", refusal as u64)
+}
+
+#[tactic(auto, using(crate::proofs::Texts::counted_put))]
+fn put_refused(room: &mut [u8], at: usize, refusal: u8) -> usize
+    ensures { ◌≡◌ {A = Put} (put room.new result) (put_parts (counted_parts (bytes " refused ") refusal) (put room.old at)) }
+{
+    put_counted(room, at, b" refused ", u64::from(refusal))
 }
 
 pub fn put_stop(room: &mut [u8], number: u64, refusal: u8) -> usize
     ensures { ◌≡◌ {A = Put} (put room.new result) (put_parts (stop_parts number refusal) (put room.old 0)) }
 {
     let next = put_digits(room, 0, DIGITS, number);
-    let end = put_counted(room, next, b" refused ", refusal as u64);
+    let end = put_refused(room, next, refusal);
     put_counted(room, end, b"frames ", number)
 }

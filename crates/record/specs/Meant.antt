@@ -2,18 +2,36 @@
 -- in it but the first break.
 use mathlib.Core.{Path.◌≡◌, List.List}
 use Rattle.std.specs.Prelude.{ℕ, ◌≤◌, ◌<◌, Result, Ok, Err}
-use lib.ListN.{length}
+use lib.{IntN.pos, ListN.length}
+use Rattle.refusal.specs.{Number.number_of}
 use Rattle.refusal.specs.declared.{Broken.Broken, Refusal.Refusal, Refusal.TheVariants.Invalid}
 use Rattle.octets.specs.Bytes.{put_at}
 use Rattle.element.specs.{Form.walk_of, Tree.Tree, Tree.count_of, Tree.Payload, Meaning.meaning_of}
 use Rattle.message.specs.Reading.{outer_of}
-use Rattle.record.specs.declared.Counted.{Counted}
+use Rattle.record.specs.declared.{Body.Body, Message.Message, Counted.Counted}
 use Rattle.record.specs.Reading.{Reading, reading_of}
 
 -- an answer, and the lent bytes afterwards
 pub record Answered : Type 0 where
   pub told : Result Counted Broken
   pub lent : List ℕ
+
+-- document 01's number, place, count and record of what is told: zeros besides
+abbrev pub refusal_told : Result Counted Broken → ℕ
+refusal_told (Ok x) = 0
+refusal_told (Err b) = number_of b.refusal
+
+abbrev pub place_told : Result Counted Broken → ℕ
+place_told (Ok x) = 0
+place_told (Err b) = b.place
+
+abbrev pub count_told : Result Counted Broken → ℕ
+count_told (Ok x) = x.count
+count_told (Err b) = 0
+
+abbrev pub message_told : Result Counted Broken → Message
+message_told (Ok x) = x.message
+message_told (Err b) = record { op_id = pos 0; body = Body.Bare 0 }
 
 -- a refusal with the place of a byte, or with no place, and the lent bytes stay
 abbrev pub breaks : Broken → List ℕ → Answered
