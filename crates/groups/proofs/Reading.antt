@@ -10,8 +10,8 @@ use borrow.Author.Tests.{lt-ltb, le-ltb, le-leb, lt-leb, eq-eqb, ne_eqb}
 use Rattle.std.specs.Prelude.{Result, Ok, Err, IsErrAnd}
 use Rattle.refusal.specs.declared.Refusal.{Refusal, TheVariants.NotShortest, TheVariants.InputEnds}
 use Rattle.groups.specs.declared.Number.{Number}
-use Rattle.groups.specs.Groups.{last_group, tenth_group, behind, on_number, groups_at}
-use Rattle.groups.proofs.Ways.{way, below}
+use Rattle.groups.specs.Groups.{last_group, tenth_group, behind, groups_at}
+use Rattle.groups.proofs.Ways.{below}
 
 -- a refusal that is handed on
 pub given_up : {A : Type 0} (r : Result A Refusal) (k : Refusal) → IsErrAnd r (λ y. y ≡ k) → r ≡ Err k

@@ -1,9 +1,9 @@
 -- A record that is read, taken apart: its three numbers, one behind the other, the tests that they passed, and its frame. And put together: what
 -- has these parts is what is read. Assumes nothing.
-use mathlib.Core.{Path.◌≡◌, Path.refl, Path.sym, Path.ap, Path.subst, Path.◌∙◌, Bool.Bool, Bool.true, List.List}
+use mathlib.Core.{Path.◌≡◌, Path.sym, Path.subst, Path.◌∙◌, Bool.Bool, Bool.true, List.List}
 use Prim.Native.Nat.{ℕ, ◌+◌, ◌≤◌}
 use lib.ListN.{length}
-use Rattle.std.specs.Prelude.{Result, Ok, Err}
+use Rattle.std.specs.Prelude.{Result, Ok}
 use Rattle.refusal.specs.declared.Refusal.{Refusal, TheVariants.StationNumber, TheVariants.TimeSum, TheVariants.NotOneFrame}
 use Rattle.groups.specs.declared.Number.{Number}
 use Rattle.groups.specs.Groups.{last_group, number_at}

@@ -1,5 +1,5 @@
 -- A number, its test and what follows: the three numbers of a record have this in common, so what they share is said once; and the frame behind
--- them. By cases of the tests. Assumes nothing.
+-- them. So has a trace's start. By cases of the tests. Assumes nothing.
 use mathlib.Core.{Path.◌≡◌, Path.refl, Path.ap, List.List}
 use mathlib.Core.Bool.{Bool, true, false}
 use Prim.Native.Nat.{ℕ, ◌+◌, ◌≤◌, ◌<◌}
@@ -14,15 +14,22 @@ use Rattle.groups.specs.Groups.{on_number}
 use Rattle.trace.specs.declared.Entry.{Entry}
 use Rattle.trace.specs.Record.{is_one_frame, frame_at}
 
--- two answers that are values are the same one
+abbrev refusal_or : {A : Type 0} → Refusal → Result A Refusal → Refusal
+refusal_or d (Ok a) = d
+refusal_or d (Err k) = k
+
+-- two answers that are values have the same, and two refusals too
 pub ok_same : {A : Type 0} {a b : A} → ◌≡◌ {A = Result A Refusal} (Ok a) (Ok b) → a ≡ b
 ok_same {A} {a} e = ap (λ (r : Result A Refusal). result_unwrap_or r a) e
 
-abbrev pub step_of : Result Number Refusal → (ℕ → Bool) → (Number → Result Entry Refusal) → Refusal → Result Entry Refusal
+pub err_same : {A : Type 0} {j k : Refusal} → ◌≡◌ {A = Result A Refusal} (Err j) (Err k) → j ≡ k
+err_same {A} {j} e = ap (λ (r : Result A Refusal). refusal_or j r) e
+
+abbrev pub step_of : {A : Type 0} → Result Number Refusal → (ℕ → Bool) → (Number → Result A Refusal) → Refusal → Result A Refusal
 step_of n test next k = on_number n (λ m. either (test m.value) (λ _. next m) (λ _. Err k))
 
-module _ (n : Result Number Refusal) (test : ℕ → Bool) (next : Number → Result Entry Refusal) (k : Refusal) where
-  pub by_step : (P : Result Entry Refusal → Type 0) → ((j : Refusal) → n ≡ Err j → P (Err j)) → ((o : Number) → n ≡ Ok o → test o.value ≡ false → P (Err k))
+module _ {A : Type 0} (n : Result Number Refusal) (test : ℕ → Bool) (next : Number → Result A Refusal) (k : Refusal) where
+  pub by_step : (P : Result A Refusal → Type 0) → ((j : Refusal) → n ≡ Err j → P (Err j)) → ((o : Number) → n ≡ Ok o → test o.value ≡ false → P (Err k))
       → ((o : Number) → n ≡ Ok o → test o.value ≡ true → P (next o)) → P (step_of n test next k)
   by_step P a b c = go n refl
     where

@@ -24,6 +24,7 @@ pub struct Entry {
 }
 
 // Whether the bytes are one whole frame and no more.
+#[tactic(auto, using(crate::proofs::Reading::frames))]
 fn is_one_frame(f: &[u8]) -> bool
     ensures { result ≡ is_one_frame f.now }
 {

@@ -13,7 +13,7 @@ use refusal::Refusal;
 const NUMBERS: usize = 30;
 
 // The number 1 at the start of the room, and how many bytes that takes; 20.
-#[tactic(auto, using(crate::proofs::Recording::starting))]
+#[tactic(auto, using(crate::proofs::Recording::start_placed))]
 pub fn write_start(room: &mut [u8]) -> Result<usize, Refusal>
     ensures { ◌≡◌ {A = Recorded} (recorded result room.new) (start_in room.old) }
 {
@@ -22,7 +22,13 @@ pub fn write_start(room: &mut [u8]) -> Result<usize, Refusal>
 
 // A record at the start of the room, behind gaps of this sum, and how many bytes it takes; 34, 25, 35, 20.
 #[tactic(auto, using(crate::proofs::Recording::recording))]
-pub fn write(room: &mut [u8], sum: u64, gap: u64, station: u64, frame: &[u8]) -> Result<usize, Refusal>
+pub fn write(
+    room: &mut [u8],
+    sum: u64,
+    gap: u64,
+    station: u64,
+    frame: &[u8],
+) -> Result<usize, Refusal>
     ensures { ◌≡◌ {A = Recorded} (recorded result room.new) (record_in sum gap station frame.now room.old) }
 {
     if !is_time(sum, gap) {

@@ -1,5 +1,4 @@
-use Rattle.std.proofs.Common.{rules}
-use Rattle.groups.proofs.Reading.{groups, at_refused, at_more, given_up}
+use Rattle.groups.proofs.Reading.{at_refused, at_more}
 use Rattle.groups.proofs.+group_at.Goals as goal
 
 pub returns-in_err-others : goal.returns-in_err-others
