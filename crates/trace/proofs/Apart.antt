@@ -42,14 +42,14 @@ passed n test next k e q =
 record Whole (s : List ℕ) (gap station from size : ℕ) (e : Entry) : Type 0 where
   there : from + size ≤ length s
   frame : is_one_frame (frame_of s (entry_at s gap station from size)) ≡ true
-  same : e ≡ entry_at s gap station from size
+  same : entry_at s gap station from size ≡ e
 
 whole : (s : List ℕ) (gap station from size : ℕ) (e : Entry) → Ok e ≡ frame_at s gap station from size → Whole s gap station from size e
 whole s gap station from size e q =
     by_frame s gap station from size (λ x. Ok e ≡ x → Whole s gap station from size e)
     (λ l p. absurd (ok_err p))
     (λ l t p. absurd (ok_err p))
-    (λ l t p. record { there = l; frame = t; same = ok_same p })
+    (λ l t p. record { there = l; frame = t; same = sym (ok_same p) })
     q
 
 goes : (n : Result Number Refusal) (test : ℕ → Bool) (next : Number → Result Entry Refusal) (k : Refusal) (v j : ℕ) → n ≡ Ok (last_group v j) → test v ≡ true → step_of n test next k ≡ next (last_group v j)
@@ -66,7 +66,7 @@ module _ (sum : ℕ) (s : List ℕ) (e : Entry) where
       let c = passed (number_at s h.next) is_frame_length (λ n. frame_at s g.value h.value n.next n.value) NotOneFrame e b.same in
       let i = c.number in
       let w = whole s g.value h.value i.next i.value e c.same in
-      subst (λ (e : Entry). Apart sum s e) (sym w.same)
+      subst (λ (e : Entry). Apart sum s e) w.same
       (record {
         second = g.next;
         third = h.next;
