@@ -101,8 +101,6 @@ module _ (sum : ℕ) (s : List ℕ) (e : Entry) (z : entry_of sum s ≡ Ok e) wh
   pub read_frame_long : length (frame_of s e) ≡ e.size
   read_frame_long = frame_long sum s (entry_of sum s) e refl z
 
-pub ruleset read_entries = (read_station_below, read_sum_fits, read_frame_there, read_size_some, read_frame_behind, read_frame_is_one, read_frame_long)
-
 -- a number below 128 is one byte
 small_one : (s : List ℕ) (more at : ℕ) (r : Result Number Refusal) → Way s more at r → IfOk r (λ o. o.value < 128 → o.next ≡ suc at)
 small_one s more at r (Way.ended m k h) = tt
@@ -138,8 +136,6 @@ module _ (s : List ℕ) (a : Result Number Refusal) (n : Number) (q : a ≡ star
   pub start_forward : 0 < n.next
   start_forward = omega (arith, start_next)
 
-pub ruleset starts = (start_one, start_next, start_there, start_forward)
-
 module _ (s : List ℕ) (n : Number) (z : start_of s ≡ Ok n) where
   pub read_start_one : n.value ≡ 1
   read_start_one = start_one s (start_of s) n refl z
@@ -149,5 +145,3 @@ module _ (s : List ℕ) (n : Number) (z : start_of s ≡ Ok n) where
 
   pub read_start_there : n.next ≤ length s
   read_start_there = start_there s (start_of s) n refl z
-
-pub ruleset read_starts = (read_start_one, read_start_next, read_start_there)

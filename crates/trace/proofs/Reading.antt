@@ -2,10 +2,10 @@
 -- Assumes nothing.
 use mathlib.Core.{Path.◌≡◌, Path.refl, Path.sym, Path.◌∙◌, List.List}
 use mathlib.Core.Bool.{Bool, true, false, not, ◌&&◌, ◌||◌}
-use Prim.Native.Nat.{ℕ, ◌+◌, ◌-◌, ◌^◌, ◌≤◌, ◌<◌}
+use Prim.Native.Nat.{ℕ, ◌+◌, ◌-◌, ◌≤◌, ◌<◌}
 use native.Mathlib.Omega.{arith}
 use lib.{Dec.eqb, Dec.leb, Dec.ltb, ListN.length, ListN.take, ListN.drop}
-use borrow.Author.Tests.{lt-ltb, le-ltb, le-leb, lt-leb, eq-eqb, ne_eqb, leb-true, leb-false, ltb-true, ltb-false, eqb-true, not-true, not-false}
+use borrow.Author.Tests.{le-ltb, le-leb, lt-leb, eq-eqb, ne_eqb, leb-true, ltb-false, eqb-true, not-true, not-false}
 use Rattle.std.specs.Prelude.{Result, Ok, Err, IsErrAnd}
 use Rattle.octets.proofs.{Ranges.same_test, Ranges.true_false, Truth.neither}
 use Rattle.frame.specs.declared.Framed.{Framed, TheVariants.Whole, TheVariants.Refused}
@@ -43,26 +43,6 @@ module _ (f : List ℕ) (r : Framed) (q : r ≡ framed_of f) where
       simp (p, ne_eqb k 0 (λ z. omega arith))
 
 pub ruleset frames = (head_there, whole_is_one, refused_not_one)
-
--- a sum that fits, however it is tested
-module _ (sum gap : ℕ) (h : sum < 2 ^ 64) (l : gap < 2 ^ 64) where
-  time_of : (t : Bool) → (t ≡ true → sum + gap < 2 ^ 64) → (t ≡ false → 2 ^ 64 ≤ sum + gap) → t ≡ is_time (sum + gap)
-  time_of true f g = sym (lt-ltb (sum + gap) (2 ^ 64) (f refl))
-  time_of false f g = sym (le-ltb (sum + gap) (2 ^ 64) (g refl))
-
-  pub gap_left : leb gap (2 ^ 64 - 1 - sum) ≡ is_time (sum + gap)
-  gap_left = time_of (leb gap (2 ^ 64 - 1 - sum)) (λ t. omega (arith, leb-true gap (2 ^ 64 - 1 - sum) t)) (λ t. omega (arith, leb-false gap (2 ^ 64 - 1 - sum) t))
-
-  pub sum_left : leb sum (2 ^ 64 - 1 - gap) ≡ is_time (sum + gap)
-  sum_left = time_of (leb sum (2 ^ 64 - 1 - gap)) (λ t. omega (arith, leb-true sum (2 ^ 64 - 1 - gap) t)) (λ t. omega (arith, leb-false sum (2 ^ 64 - 1 - gap) t))
-
-  pub gap_not_past : not (ltb (2 ^ 64 - 1 - sum) gap) ≡ is_time (sum + gap)
-  gap_not_past =
-      time_of (not (ltb (2 ^ 64 - 1 - sum) gap))
-      (λ t. omega (arith, ltb-false (2 ^ 64 - 1 - sum) gap (not-true (ltb (2 ^ 64 - 1 - sum) gap) t)))
-      (λ t. omega (arith, ltb-true (2 ^ 64 - 1 - sum) gap (not-false (ltb (2 ^ 64 - 1 - sum) gap) t)))
-
-pub ruleset times = (gap_left, sum_left, gap_not_past)
 
 -- so many bytes from a place on
 module _ (s : List ℕ) (gap station from size : ℕ) (h : from ≤ length s) where
@@ -117,9 +97,6 @@ test_failed b t q n = sym q ∙ not-true b n
 
 pub one : (v : ℕ) → v ≡ 1 → eqb v 1 ≡ true
 one v e = eq-eqb v 1 e
-
-pub not_one : (v : ℕ) → (v ≡ 1 → ⊥) → eqb v 1 ≡ false
-not_one v f = ne_eqb v 1 f
 
 -- a number that a call answers, and what follows
 module _ {A : Type 0} (m n : Result Number Refusal) (q : m ≡ n) (test : ℕ → Bool) (next : Number → Result A Refusal) (k : Refusal) where
