@@ -1,21 +1,24 @@
 -- What the calls on traces answer, and what the lent bytes and the time hold afterwards: a refused call changes nothing. Of a record that is read, its length is in
 -- bits 16 to 31 of the answer, its frame's length in bits 32 to 47, its station from 48 on.
-use Rattle.std.specs.Prelude.{ℕ, ◌+◌, ◌*◌, List, eqb}
-use Rattle.octets.specs.Choice.{either}
+use Rattle.std.specs.Prelude.{ℕ, ◌+◌, ◌*◌, List, Result, Ok, Err}
+use Rattle.refusal.specs.declared.Refusal.{Refusal}
+use Rattle.refusal.specs.Number.{number_of}
 use Rattle.groups.specs.declared.Number.{Number}
-use Rattle.trace.specs.declared.{Entry.Entry, Wrote.Wrote}
+use Rattle.trace.specs.declared.Entry.{Entry}
 use Rattle.trace.specs.{Record.entry_of, Write.record_in, Write.start_in}
 use Rattle.chozukpima.specs.{Packed.packed, Packed.refused_with, Messages.Filled, Messages.filled}
 
-abbrev pub wrote_answer : Wrote → ℕ
-wrote_answer w = packed w.refusal 0 w.length
+abbrev pub wrote_answer : Result ℕ Refusal → ℕ
+wrote_answer (Ok n) = packed 0 0 n
+wrote_answer (Err k) = refused_with (number_of k)
 
 -- the start of a trace, written and read
 unfoldable pub trace_start_returns : List ℕ → Filled
 trace_start_returns room = filled (wrote_answer (start_in room).answer) (start_in room).room
 
-abbrev pub open_answer : Number → ℕ
-open_answer n = packed n.refusal 0 n.next
+abbrev pub open_answer : Result Number Refusal → ℕ
+open_answer (Ok n) = packed 0 0 n.next
+open_answer (Err k) = refused_with (number_of k)
 
 -- an answer, the sum of the gaps and the room afterwards
 pub record Timed : Type 0 where
@@ -27,8 +30,9 @@ abbrev pub timed : ℕ → ℕ → List ℕ → Timed
 timed n t room = record { answer = n; time = t; room = room }
 
 -- a record written: its gap is added where it is taken
-abbrev pub time_after : Wrote → ℕ → ℕ → ℕ
-time_after w time gap = either (eqb w.refusal 0) (λ _. time + gap) (λ _. time)
+abbrev pub time_after : Result ℕ Refusal → ℕ → ℕ → ℕ
+time_after (Ok n) time gap = time + gap
+time_after (Err k) time gap = time
 
 unfoldable pub record_returns : ℕ → ℕ → ℕ → List ℕ → List ℕ → Timed
 record_returns time gap station frame room =
@@ -46,8 +50,9 @@ pub record Advanced : Type 0 where
 abbrev pub advanced : ℕ → ℕ → Advanced
 advanced n t = record { answer = n; time = t }
 
+abbrev pub entry_returns : ℕ → Result Entry Refusal → Advanced
+entry_returns time (Ok e) = advanced (entry_answer e) (time + e.gap)
+entry_returns time (Err k) = advanced (refused_with (number_of k)) time
+
 unfoldable pub recorded_returns : ℕ → List ℕ → Advanced
-recorded_returns time s =
-    either (eqb (entry_of time s).refusal 0)
-    (λ _. advanced (entry_answer (entry_of time s)) (time + (entry_of time s).gap))
-    (λ _. advanced (refused_with (entry_of time s).refusal) time)
+recorded_returns time s = entry_returns time (entry_of time s)

@@ -5,12 +5,17 @@ ghost use Rattle.chozukpima.specs.{Messages.Filled, Messages.filled};
 ghost use Rattle.chozukpima.specs.Traces.{wrote_answer, trace_start_returns, open_answer, Timed, timed, record_returns, entry_answer, Advanced, advanced, recorded_returns};
 
 use crate::answer::{pack, refuse};
-use trace::{Entry, Wrote};
+use refusal::Refusal;
+use trace::Entry;
 
-fn wrote_answer(w: Wrote) -> u64
+#[tactic(auto, using(crate::proofs::Tracing::wrote_refused))]
+fn wrote_answer(w: Result<usize, Refusal>) -> u64
     ensures { result ≡ wrote_answer w }
 {
-    pack(w.refusal, 0, w.length)
+    match w {
+        Ok(length) => pack(0, 0, length),
+        Err(r) => refuse(r.number()),
+    }
 }
 
 // The start of a trace, at the start of the room; 20.
@@ -24,32 +29,38 @@ pub fn chz_trace_start(room: &mut [u8]) -> u64
 pub fn chz_record(time: &mut u64, gap: u64, station: u64, frame: &[u8], room: &mut [u8]) -> u64
     ensures { ◌≡◌ {A = Timed} (timed result time.new room.new) (record_returns time.old gap station frame.now room.old) }
 {
-    let w = trace::write(room, *time, gap, station, frame);
-    if w.refusal != 0 {
-        return wrote_answer(w);
+    match trace::write(room, *time, gap, station, frame) {
+        Ok(length) => {
+            *time = *time + gap;
+            pack(0, 0, length)
+        }
+        Err(r) => refuse(r.number()),
     }
-    *time = *time + gap;
-    wrote_answer(w)
 }
 
 // The start of a trace in bytes: how many it takes; 33, 32, 31.
+#[tactic(auto, using(crate::proofs::Tracing::opened, crate::proofs::Tracing::not_opened))]
 pub fn chz_trace_open(bytes: &[u8]) -> u64
     ensures { result ≡ open_answer (start_of bytes.now) }
 {
-    let n = trace::start(bytes);
-    pack(n.refusal, 0, n.next)
+    match trace::start(bytes) {
+        Ok(n) => pack(0, 0, n.next),
+        Err(r) => refuse(r.number()),
+    }
 }
 
 // A record at the start of the bytes; its gap is added to the time; 33, 32, 34, 25, 35.
+#[tactic(auto, using(crate::proofs::Tracing::reading_records, trace::proofs::Entries::entries))]
 pub fn chz_recorded(time: &mut u64, bytes: &[u8]) -> u64
     ensures { ◌≡◌ {A = Advanced} (advanced result time.new) (recorded_returns time.old bytes.now) }
 {
-    let e = trace::read(bytes, *time);
-    if e.refusal != 0 {
-        return refuse(e.refusal);
+    match trace::read(bytes, *time) {
+        Ok(e) => {
+            *time = *time + e.gap;
+            entry_answer(e)
+        }
+        Err(r) => refuse(r.number()),
     }
-    *time = *time + e.gap;
-    entry_answer(e)
 }
 
 // Record, frame and station, each in its own bits.

@@ -1,15 +1,16 @@
 -- A turn over enrolments: too few bytes, a row taken, or a refusal. Assumes nothing.
-use mathlib.Core.{Path.◌≡◌, Path.refl, Path.sym, Path.ap, Path.◌∙◌, List.List, List.[], List.◌∷◌}
-use mathlib.Core.Bool.{Bool, true, false}
+use mathlib.Core.{Path.◌≡◌, Path.sym, Path.ap, Path.◌∙◌, List.List}
+use mathlib.Core.Bool.{Bool, false}
 use Prim.Native.Nat.{ℕ, ◌+◌, ◌≤◌, ◌<◌}
 use native.Mathlib.Omega.{arith}
-use lib.{Dec.leb, ListN.length}
+use lib.{ListN.length}
 use borrow.Author.Tests.{le-leb, lt-leb}
 use Rattle.octets.specs.Number.{big_at, if_there}
-use Rattle.forms.specs.Code.Put.{put, put_parts}
+use Rattle.forms.specs.Code.Put.{put}
+use Rattle.refusal.specs.declared.Refusal.{TheVariants.InputEnds}
 use Rattle.meters.specs.declared.Found.{Found}
 use Rattle.meters.specs.declared.Found.TheVariants as found
-use Rattle.meters.specs.Columns.{Columns, told_place, enrol_on, Done}
+use Rattle.meters.specs.Columns.{Columns, told_place, enrol_on}
 use Rattle.lines.specs.{Turn.Shows, declared.Took.Took}
 use Rattle.lines.proofs.Texts.{none_put}
 use Rattle.turns.specs.Turns.{Turn}
@@ -42,7 +43,7 @@ pub ruleset enrolling_meter = (meter_keeps, taken_shows, refused_shows)
 
 module _ (last : Bool) (c : Columns) (s : List ℕ) where
   module _ (l : length s < 14) where
-    pub cut_shows : (d e : List ℕ) (r : Took) → Shows (refuses_between last (length s) 33) d e r → Shows (shown_by (enrol_turn last c s)) d e r
+    pub cut_shows : (d e : List ℕ) (r : Took) → Shows (refuses_between last (length s) InputEnds) d e r → Shows (shown_by (enrol_turn last c s)) d e r
     unfolding enrol_turn
     cut_shows d e r h = simp (lt-leb 14 (length s) l) h
 

@@ -9,3 +9,4 @@ pub mod Printing
 pub mod Settled
 pub mod Waiting
 pub mod Program
+pub mod Ends

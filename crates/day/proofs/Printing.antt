@@ -8,7 +8,8 @@ use native.Mathlib.Omega.{arith}
 use lib.{Dec.eqb, ListN.drop}
 use Rattle.octets.proofs.Ranges.{true_false}
 use Rattle.meters.specs.Columns.{Columns}
-use Rattle.trace.specs.{Record.entry_of, Record.start_of, Trace.end_of}
+use Rattle.refusal.specs.Number.{number_of}
+use Rattle.trace.specs.Trace.{end_of}
 use Rattle.play.specs.Centre.{Centre}
 use Rattle.turns.specs.Turns.{Turn, Runs, whole}
 use Rattle.turns.proofs.Pieces as turns
@@ -70,18 +71,18 @@ ReplaysIn (Phase.playing sum x) s out y = Replays sum x s out y
 
 -- what the turns print is printed
 ended_replays : (p : Phase) (s : List ℕ) (t : Turn Phase) → TraceWay true p s t → t.ended ≡ true → ReplaysIn p s t.text (centre_in t.state)
-ended_replays p s t (TraceWay.begun l x g z) o = true_false (sym o)
-ended_replays p s t (TraceWay.fail l x g f c) o = ReplaysTrace.fails x s f
-ended_replays p s t (TraceWay.play l sum x y g r z m) o = true_false (sym o)
+ended_replays p s t (TraceWay.begun l x g n z) o = true_false (sym o)
+ended_replays p s t (TraceWay.fail l x g k f c) o = ReplaysTrace.fails x s k f
+ended_replays p s t (TraceWay.play l sum x y g e r z m) o = true_false (sym o)
 ended_replays p s t (TraceWay.end sum x) o = Replays.finished sum x
-ended_replays p s t (TraceWay.fault l sum x g n f c) o = Replays.faults sum x s n f
+ended_replays p s t (TraceWay.fault l sum x g k n f c) o = Replays.faults sum x s k n f
 
 passed_replays : (p : Phase) (y : Centre) (s out : List ℕ) (t : Turn Phase) → TraceWay true p s t → t.ended ≡ false → ReplaysIn t.state (drop t.used s) out y → ReplaysIn p s (t.text ++ out) y
-passed_replays p y s out t (TraceWay.begun l x g z) o r = ReplaysTrace.starts x y s out z r
-passed_replays p y s out t (TraceWay.fail l x g f c) o r = true_false o
-passed_replays p y s out t (TraceWay.play l sum x v g q z m) o r = Replays.plays sum x v y s out q z m r
+passed_replays p y s out t (TraceWay.begun l x g n z) o r = ReplaysTrace.starts x y s out n z r
+passed_replays p y s out t (TraceWay.fail l x g k f c) o r = true_false o
+passed_replays p y s out t (TraceWay.play l sum x v g e q z m) o r = Replays.plays sum x v y s out e q z m r
 passed_replays p y s out t (TraceWay.end sum x) o r = true_false o
-passed_replays p y s out t (TraceWay.fault l sum x g n f c) o r = true_false o
+passed_replays p y s out t (TraceWay.fault l sum x g k n f c) o r = true_false o
 
 phase_run : (p q : Phase) (s out : List ℕ) → Runs TraceTurn true p s [] out q → ReplaysIn p s out (centre_in q)
 phase_run p q s out (Runs.ends l x g qs t m o) = ended_replays p s t (trace_turn_way true p s t m) o
@@ -104,30 +105,30 @@ run_records sum x y s out (Replays.finished n v) = record {
   run = Runs.ends true (Phase.playing sum x) [] [] _ (trace_way_turn true (Phase.playing sum x) [] _ (TraceWay.end sum x)) refl;
   left = refl;
 }
-run_records sum x y s out (Replays.plays n v w u g rest q z m r) =
-    let o = run_records (sum + (entry_of sum s).gap) w y (drop (end_of sum s) s) rest r in
+run_records sum x y s out (Replays.plays n v w u g rest e q z m r) =
+    let o = run_records (sum + e.gap) w y (drop (end_of e) s) rest r in
     record {
       last = o.last;
-      run = Runs.passes true (Phase.playing sum x) o.last s [] rest _ (trace_way_turn true (Phase.playing sum x) s _ (TraceWay.play true sum x w s q z m)) refl (record_uses sum s z) o.run;
+      run = Runs.passes true (Phase.playing sum x) o.last s [] rest _ (trace_way_turn true (Phase.playing sum x) s _ (TraceWay.play true sum x w s e q z m)) refl (record_uses sum s e z) o.run;
       left = o.left;
     }
-run_records sum x y s out (Replays.faults n v g h f) = record {
+run_records sum x y s out (Replays.faults n v g k h f) = record {
   last = Phase.playing sum x;
-  run = Runs.ends true (Phase.playing sum x) s [] _ (trace_way_turn true (Phase.playing sum x) s _ (TraceWay.fault true sum x s h f (and-false (eqb (entry_of sum s).refusal 33)))) refl;
+  run = Runs.ends true (Phase.playing sum x) s [] _ (trace_way_turn true (Phase.playing sum x) s _ (TraceWay.fault true sum x s k h f (and-false (eqb (number_of k) 33)))) refl;
   left = refl;
 }
 
 pub run_replays : (x y : Centre) (s out : List ℕ) → ReplaysTrace x s out y → Ran (Phase.starting x) s out y
-run_replays x y s out (ReplaysTrace.starts v w g rest z r) =
-    let o = run_records 0 x y (drop (start_of s).next s) out r in
+run_replays x y s out (ReplaysTrace.starts v w g rest n z r) =
+    let o = run_records 0 x y (drop n.next s) out r in
     record {
       last = o.last;
-      run = Runs.passes true (Phase.starting x) o.last s [] out _ (trace_way_turn true (Phase.starting x) s _ (TraceWay.begun true x s z)) refl (start_uses s z) o.run;
+      run = Runs.passes true (Phase.starting x) o.last s [] out _ (trace_way_turn true (Phase.starting x) s _ (TraceWay.begun true x s n z)) refl (start_uses s n z) o.run;
       left = o.left;
     }
-run_replays x y s out (ReplaysTrace.fails v g f) = record {
+run_replays x y s out (ReplaysTrace.fails v g k f) = record {
   last = Phase.starting x;
-  run = Runs.ends true (Phase.starting x) s [] _ (trace_way_turn true (Phase.starting x) s _ (TraceWay.fail true x s f (and-false (eqb (start_of s).refusal 33)))) refl;
+  run = Runs.ends true (Phase.starting x) s [] _ (trace_way_turn true (Phase.starting x) s _ (TraceWay.fail true x s k f (and-false (eqb (number_of k) 33)))) refl;
   left = refl;
 }
 

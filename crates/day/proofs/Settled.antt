@@ -10,7 +10,7 @@ use Rattle.octets.{specs.Choice.either, specs.Bytes.put_at, proofs.Writing.put_u
 use Rattle.forms.specs.Code.Put.{Put, put}
 use Rattle.forms.proofs.Putting.{one_in}
 use Rattle.meters.specs.Columns.{Columns, columns}
-use Rattle.trace.specs.Record.{entry_of, start_of}
+use Rattle.refusal.specs.Number.{number_of}
 use Rattle.play.specs.Centre.{Centre, centre}
 use Rattle.lines.specs.{Turn.Printed, Turn.Shows, declared.Took.Took}
 use Rattle.turns.specs.Turns.{Turn}
@@ -61,13 +61,13 @@ few_enrol last c s t (EnrolWay.end d) = omega arith
 few_enrol last c s t (EnrolWay.cut d g f h) = few_refused 33
 
 few_trace : (last : Bool) (p : Phase) (s : List ℕ) (t : Turn Phase) → TraceWay last p s t → length t.text ≤ 80
-few_trace last p s t (TraceWay.begun l x g z) = omega arith
+few_trace last p s t (TraceWay.begun l x g n z) = omega arith
 few_trace last p s t (TraceWay.await x g e) = omega arith
-few_trace last p s t (TraceWay.fail l x g f c) = few_refused (start_of s).refusal
-few_trace last p s t (TraceWay.play l sum x y g r z m) = few_line (entry_of sum s).station r
+few_trace last p s t (TraceWay.fail l x g k f c) = few_refused (number_of k)
+few_trace last p s t (TraceWay.play l sum x y g e r z m) = few_line e.station r
 few_trace last p s t (TraceWay.wait sum x g e) = omega arith
 few_trace last p s t (TraceWay.end sum x) = omega arith
-few_trace last p s t (TraceWay.fault l sum x g n f c) = few_refused (entry_of sum s).refusal
+few_trace last p s t (TraceWay.fault l sum x g k n f c) = few_refused (number_of k)
 
 shown : (x : Printed) (d e : List ℕ) (r : Took) → Shows x d e r → length x.text ≤ 80 → 80 ≤ length d → take r.length e ≡ x.text
 shown x d e r a l h =
@@ -94,9 +94,9 @@ abbrev pub begun_by : Centre → Took → Phase
 begun_by x r = either (eqb r.used 0) (λ _. Phase.starting x) (λ _. Phase.playing 0 x)
 
 begun_by_lem : (last : Bool) (x : Centre) (s : List ℕ) (t : Turn Phase) → TraceWay last (Phase.starting x) s t → either (eqb t.used 0) (λ _. Phase.starting x) (λ _. Phase.playing 0 x) ≡ t.state
-begun_by_lem last x s t (TraceWay.begun l y g z) = simp (ne_eqb (start_of s).next 0 (start_uses s z))
+begun_by_lem last x s t (TraceWay.begun l y g n z) = simp (ne_eqb n.next 0 (start_uses s n z))
 begun_by_lem last x s t (TraceWay.await y g e) = refl
-begun_by_lem last x s t (TraceWay.fail l y g f c) = refl
+begun_by_lem last x s t (TraceWay.fail l y g k f c) = refl
 
 pub one_start : (last : Bool) (x : Centre) (s d e : List ℕ) (r : Took) → ((y : Centre) → Shows (shown_by (start_turn last y s)) d e r) → 80 ≤ length d
     → TraceTurn last (Phase.starting x) s (tells_turn r e (begun_by x r))

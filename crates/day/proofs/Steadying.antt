@@ -9,6 +9,13 @@ use lib.{Dec.eqb, ListN.length, ListN.length-append, ListN.get_or-append}
 use Rattle.octets.specs.Number.{big_at}
 use Rattle.octets.proofs.{Ranges.true_false, Places.same_big}
 use Rattle.meters.specs.Columns.{Columns, enrol_on}
+use Rattle.std.specs.Prelude.{Ok}
+use Rattle.refusal.specs.declared.Refusal.{Refusal, TheVariants.InputEnds}
+use Rattle.refusal.specs.Number.{number_of}
+use Rattle.groups.specs.declared.Number.{Number}
+use Rattle.groups.proofs.Goes.{ok_err}
+use Rattle.trace.specs.declared.Entry.{Entry}
+use Rattle.trace.proofs.Stepping.{err_same}
 use Rattle.trace.specs.Record.{entry_of, start_of}
 use Rattle.trace.specs.Trace.{end_of}
 use Rattle.trace.proofs.{Entries.read_frame_there, Entries.read_frame_behind, Entries.read_start_there, Entries.read_start_next}
@@ -63,52 +70,49 @@ enrol_steady = record {
 
 -- a trace
 trace_within : (last : Bool) (x : Phase) (h : List ℕ) (t : Turn Phase) → TraceWay last x h t → t.used ≤ length h
-trace_within last x h t (TraceWay.begun l c g z) = read_start_there h z
+trace_within last x h t (TraceWay.begun l c g n z) = read_start_there h n z
 trace_within last x h t (TraceWay.await c g e) = omega arith
-trace_within last x h t (TraceWay.fail l c g f o) = omega arith
-trace_within last x h t (TraceWay.play l sum c d g r z m) = read_frame_there sum h z
+trace_within last x h t (TraceWay.fail l c g k f o) = omega arith
+trace_within last x h t (TraceWay.play l sum c d g e r z m) = read_frame_there sum h e z
 trace_within last x h t (TraceWay.wait sum c g e) = omega arith
 trace_within last x h t (TraceWay.end sum c) = omega arith
-trace_within last x h t (TraceWay.fault l sum c g n f o) = omega arith
+trace_within last x h t (TraceWay.fault l sum c g k n f o) = omega arith
 
 -- a start and a record have bytes
-pub start_uses : (h : List ℕ) → (start_of h).refusal ≡ 0 → (start_of h).next ≡ 0 → ⊥
-start_uses h z u = omega (arith, read_start_next h z)
+pub start_uses : (h : List ℕ) (n : Number) → start_of h ≡ Ok n → n.next ≡ 0 → ⊥
+start_uses h n z u = omega (arith, read_start_next h n z)
 
-pub record_uses : (sum : ℕ) (h : List ℕ) → (entry_of sum h).refusal ≡ 0 → end_of sum h ≡ 0 → ⊥
-record_uses sum h z u = omega (arith, read_frame_behind sum h z)
+pub record_uses : (sum : ℕ) (h : List ℕ) (e : Entry) → entry_of sum h ≡ Ok e → end_of e ≡ 0 → ⊥
+record_uses sum h e z u = omega (arith, read_frame_behind sum h e z)
 
 trace_waits : (last : Bool) (x : Phase) (h : List ℕ) (t : Turn Phase) → TraceWay last x h t → t.ended ≡ false → t.used ≡ 0 → (last ≡ false) × ((t.text ≡ []) × (t.state ≡ x))
-trace_waits last x h t (TraceWay.begun l c g z) o u = absurd (start_uses h z u)
+trace_waits last x h t (TraceWay.begun l c g n z) o u = absurd (start_uses h n z u)
 trace_waits last x h t (TraceWay.await c g e) o u = (refl, (refl, refl))
-trace_waits last x h t (TraceWay.fail l c g f k) o u = true_false o
-trace_waits last x h t (TraceWay.play l sum c d g r z m) o u = absurd (record_uses sum h z u)
+trace_waits last x h t (TraceWay.fail l c g k f i) o u = true_false o
+trace_waits last x h t (TraceWay.play l sum c d g e r z m) o u = absurd (record_uses sum h e z u)
 trace_waits last x h t (TraceWay.wait sum c g e) o u = (refl, (refl, refl))
 trace_waits last x h t (TraceWay.end sum c) o u = true_false o
-trace_waits last x h t (TraceWay.fault l sum c g n f k) o u = true_false o
+trace_waits last x h t (TraceWay.fault l sum c g k n f i) o u = true_false o
 
 -- a refusal other than 33 stays one, whether or not more may come
-settles : (n : ℕ) → eqb n 33 && true ≡ false → n ≡ 33 → ⊥
-settles n c e = true_false (rw e at c)
+settles : (k : Refusal) → eqb (number_of k) 33 && true ≡ false → k ≡ InputEnds → ⊥
+settles k c e = true_false (rw e at c)
 
 any_last : (n : ℕ) (l : Bool) → eqb n 33 && true ≡ false → eqb n 33 && not l ≡ false
 any_last n l c = simp (sym (and-true (eqb n 33)) ∙ c)
 
 trace_stays : (x : Phase) (h p : List ℕ) (l : Bool) (t : Turn Phase) → TraceWay false x h t → (t.ended ≡ false → t.used ≡ 0 → ⊥) → TraceWay l x (h ++ p) t
-trace_stays x h p l t (TraceWay.begun k c g z) y =
-    let q = start_settled h p (λ e. omega arith) in
-    rw (← q) (TraceWay.begun l c (h ++ p) (rw q z))
+trace_stays x h p l t (TraceWay.begun k c g n z) y = TraceWay.begun l c (h ++ p) n (start_settled h p (λ e. ok_err (sym z ∙ e)) ∙ z)
 trace_stays x h p l t (TraceWay.await c g e) y = absurd (y refl refl)
-trace_stays x h p l t (TraceWay.fail k c g f o) y =
-    let q = start_settled h p (settles (start_of h).refusal o) in
-    rw (← q) (TraceWay.fail l c (h ++ p) (rw q f) (rw q (any_last (start_of h).refusal l o)))
-trace_stays x h p l t (TraceWay.play k sum c d g r z m) y =
-    let q = entry_settled sum h p (λ e. omega arith) in
-    rw (← q) (TraceWay.play l sum c d (h ++ p) r (rw q z) (rw (q, frame_settled sum h p z) m))
+trace_stays x h p l t (TraceWay.fail i c g k f o) y =
+    TraceWay.fail l c (h ++ p) k (start_settled h p (λ e. settles k o (err_same (sym f ∙ e))) ∙ f) (any_last (number_of k) l o)
+trace_stays x h p l t (TraceWay.play k sum c d g e r z m) y =
+    let q = entry_settled sum h p (λ i. ok_err (sym z ∙ i)) in
+    TraceWay.play l sum c d (h ++ p) e r (q ∙ z) (rw (frame_settled sum h p e z) m)
 trace_stays x h p l t (TraceWay.wait sum c g e) y = absurd (y refl refl)
-trace_stays x h p l t (TraceWay.fault k sum c g n f o) y =
-    let q = entry_settled sum h p (settles (entry_of sum h).refusal o) in
-    rw (← q) (TraceWay.fault l sum c (h ++ p) (λ e. some_long h n (omega (arith, length-append h p, ap length e))) (rw q f) (rw q (any_last (entry_of sum h).refusal l o)))
+trace_stays x h p l t (TraceWay.fault i sum c g k n f o) y =
+    let q = entry_settled sum h p (λ e. settles k o (err_same (sym f ∙ e))) in
+    TraceWay.fault l sum c (h ++ p) k (λ e. some_long h n (omega (arith, length-append h p, ap length e))) (q ∙ f) (any_last (number_of k) l o)
 
 pub trace_steady : Steady TraceTurn
 trace_steady = record {

@@ -1,12 +1,14 @@
 -- What a turn shows that finds a fault, or the end. Assumes nothing.
-use mathlib.Core.{Path.◌≡◌, Path.refl, Path.sym, Path.ap, Path.◌∙◌, List.List, List.[], List.◌∷◌}
+use mathlib.Core.{Path.◌≡◌, Path.refl, Path.ap, Path.◌∙◌, List.List, List.[], List.◌∷◌}
 use mathlib.Core.Bool.{Bool, true, false, ◌&&◌, not}
 use Prim.Native.Nat.{ℕ}
 use lib.Dec.{eqb}
-use Rattle.forms.specs.Code.Put.{Put, put, put_parts}
-use Rattle.lines.specs.{Turn.Printed, Turn.Shows, declared.Took.Took}
+use Rattle.forms.specs.Code.Put.{put, put_parts}
+use Rattle.refusal.specs.declared.Refusal.{Refusal}
+use Rattle.refusal.specs.Number.{number_of}
+use Rattle.lines.specs.{Turn.Shows, declared.Took.Took}
 use Rattle.lines.proofs.Texts.{none_put}
-use Rattle.day.specs.{Lines.refused_line, Turn.passes, Turn.stops, Turn.finishes, Turn.refuses, Turn.refuses_between}
+use Rattle.day.specs.{Lines.refused_line, Turn.stops, Turn.refuses, Turn.refuses_between}
 
 pub stopped_shows : (k n : ℕ) (d e : List ℕ) → put e n ≡ put_parts (refused_line k ∷ []) (put d 0) → Shows (stops k) d e (record { used = 0; length = n; ended = true })
 stopped_shows k n d e p = record { used = refl; ended = refl; printed = p }
@@ -18,14 +20,14 @@ nothing_shows r u b d q = record {
   printed = ap (λ (x : Took). put d x.length) q ∙ none_put (put d 0);
 }
 
-module _ (last : Bool) (k : ℕ) (d e : List ℕ) (r : Took) where
-  pub waiting_shows : eqb k 33 && not last ≡ true → r ≡ record { used = 0; length = 0; ended = false } → Shows (refuses last k) d d r
+module _ (last : Bool) (k : Refusal) (d e : List ℕ) (r : Took) where
+  pub waiting_shows : (b : Bool) → b ≡ eqb (number_of k) 33 → b && not last ≡ true → r ≡ record { used = 0; length = 0; ended = false } → Shows (refuses last k) d d r
   unfolding refuses
-  waiting_shows t q = simp t (nothing_shows r 0 false d q)
+  waiting_shows b f t q = simp (rw f at t) (nothing_shows r 0 false d q)
 
-  pub fault_shows : eqb k 33 && not last ≡ false → Shows (stops k) d e r → Shows (refuses last k) d e r
+  pub fault_shows : (b : Bool) → b ≡ eqb (number_of k) 33 → b && not last ≡ false → (n : ℕ) → n ≡ number_of k → Shows (stops n) d e r → Shows (refuses last k) d e r
   unfolding refuses
-  fault_shows t h = simp t h
+  fault_shows b f t n g h = simp (rw f at t) (rw g at h)
 
   pub end_shows : (len : ℕ) → eqb len 0 && last ≡ true → Shows (refuses_between last len k) d d (record { used = 0; length = 0; ended = true })
   unfolding refuses_between

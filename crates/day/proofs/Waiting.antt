@@ -29,15 +29,15 @@ enrol_short last c s t (EnrolWay.end d) o z = true_false o
 enrol_short last c s t (EnrolWay.cut d g f h) o z = true_false o
 
 start_short : (last : Bool) (x : Centre) (s : List ℕ) (t : Turn Phase) → TraceWay last (Phase.starting x) s t → t.ended ≡ false → t.used ≡ 0 → length s < 10
-start_short last x s t (TraceWay.begun l y g z) o u = absurd (start_uses s z u)
+start_short last x s t (TraceWay.begun l y g n z) o u = absurd (start_uses s n z u)
 start_short last x s t (TraceWay.await y g e) o u = below (length s) 10 (λ h. start_enough s h e)
-start_short last x s t (TraceWay.fail l y g f c) o u = true_false o
+start_short last x s t (TraceWay.fail l y g k f c) o u = true_false o
 
 record_short : (last : Bool) (sum : ℕ) (x : Centre) (s : List ℕ) (t : Turn Phase) → TraceWay last (Phase.playing sum x) s t → t.ended ≡ false → t.used ≡ 0 → length s < 4138
-record_short last sum x s t (TraceWay.play l n y v g r z m) o u = absurd (record_uses sum s z u)
+record_short last sum x s t (TraceWay.play l n y v g e r z m) o u = absurd (record_uses sum s e z u)
 record_short last sum x s t (TraceWay.wait n y g e) o u = below (length s) 4138 (λ h. enough sum s h e)
 record_short last sum x s t (TraceWay.end n y) o u = true_false o
-record_short last sum x s t (TraceWay.fault l n y g h f c) o u = true_false o
+record_short last sum x s t (TraceWay.fault l n y g k h f c) o u = true_false o
 
 pub enrol_waits_short : (last : Bool) (c : Columns) (s : List ℕ) (t : Turn Columns) → EnrolTurn last c s t → t.ended ≡ false → t.used ≡ 0 → length s < 14
 enrol_waits_short last c s t m = enrol_short last c s t (enrol_turn_way last c s t m)

@@ -4,6 +4,7 @@ use mathlib.Core.{Bool.Bool, List.List, List.[]}
 use Rattle.std.specs.Prelude.{ℕ}
 use lib.{Dec.leb, ListN.length, ListN.replicate}
 use Rattle.octets.specs.{Choice.either, Number.big_at}
+use Rattle.refusal.specs.declared.Refusal.{TheVariants.InputEnds}
 use Rattle.meters.specs.declared.Found.{Found}
 use Rattle.meters.specs.declared.Found.TheVariants as found
 use Rattle.meters.specs.Columns.{Columns, columns, Done, enrol_on}
@@ -33,7 +34,7 @@ unfoldable pub enrol_turn : Bool → Columns → List ℕ → Turn Columns
 enrol_turn last c s =
     either (leb enrolment_size (length s))
     (λ _. enrolled_by (enrolment_of s c).answer (enrolment_of s c).columns)
-    (λ _. leaving c (refuses_between last (length s) 33))
+    (λ _. leaving c (refuses_between last (length s) InputEnds))
 
 -- as a relation, for runs of turns
 pub data EnrolTurn : Bool → Columns → List ℕ → Turn Columns → Type 0 where

@@ -5,7 +5,9 @@
 mod text;
 
 ghost use mathlib.Core.{Path.◌≡◌, Bool.false, List.[], List.◌∷◌};
-ghost use Rattle.std.specs.Prelude.{◌≤◌, length};
+ghost use Rattle.std.specs.Prelude.{◌≤◌, ◌==◌, length};
+ghost use Rattle.refusal.specs.Number.{number_of};
+ghost use Rattle.refusal.specs.declared.Refusal.TheVariants.{InputEnds};
 ghost use Rattle.octets.specs.Number.{big_at};
 ghost use Rattle.forms.specs.Code.Put.{Put, put, put_parts};
 ghost use Rattle.meters.specs.Columns.{Columns, columns};
@@ -16,9 +18,7 @@ ghost use Rattle.day.specs.{Lines.reading_line, Lines.line_of, Lines.refused_lin
 use lines::Took;
 use meters::Found;
 use play::Credited;
-
-// Document 02's refusal where the input ends inside.
-const INPUT_ENDS: u8 = 33;
+use refusal::Refusal;
 
 // The bytes of an enrolment, and where its parts begin.
 const ENROLMENT: usize = 14;
@@ -55,7 +55,7 @@ pub fn enrol(
         (enrol_turn last (columns used.old euis.old shorts.old lasts.old heards.old) bytes.now).state }
 {
     if bytes.len() < ENROLMENT {
-        return between(room, bytes.len(), last, INPUT_ENDS);
+        return between(room, bytes.len(), last, Refusal::InputEnds);
     }
     let e = enrolment_of(bytes);
     enrol_meter(
@@ -102,14 +102,14 @@ fn enrol_meter(
 pub fn start(bytes: &[u8], last: bool, room: &mut [u8]) -> Took
     ensures { (x : Centre) → Shows (shown_by (start_turn last x bytes.now)) room.old room.new result }
 {
-    let n = trace::start(bytes);
-    if n.refusal != 0 {
-        return refused(room, last, n.refusal);
+    match trace::start(bytes) {
+        Ok(n) => passed(n.next, 0),
+        Err(r) => refused(room, last, r),
     }
-    passed(n.next, 0)
 }
 
 // One record, behind gaps of this sum, to which its own is added.
+#[tactic(auto, using(crate::proofs::Recording::recording, trace::proofs::Entries::entries))]
 pub fn turn(
     bytes: &[u8],
     last: bool,
@@ -127,10 +127,10 @@ pub fn turn(
         (centre sessions.new (columns used.now euis.now shorts.now lasts.new heards.new))
         sum.new room.new result }
 {
-    let e = trace::read(bytes, *sum);
-    if e.refusal != 0 {
-        return between(room, bytes.len(), last, e.refusal);
-    }
+    let e = match trace::read(bytes, *sum) {
+        Ok(e) => e,
+        Err(r) => return between(room, bytes.len(), last, r),
+    };
     let from = e.from;
     let end = from + e.size;
     let reading = play::play_frame(
@@ -149,7 +149,7 @@ pub fn turn(
 }
 
 // No whole enrolment or record: the input ends here, or it does not go on as it must.
-fn between(room: &mut [u8], len: usize, last: bool, refusal: u8) -> Took
+fn between(room: &mut [u8], len: usize, last: bool, refusal: Refusal) -> Took
     ensures { Shows (refuses_between last len refusal) room.old room.new result }
 {
     if (len == 0) & last {
@@ -163,13 +163,20 @@ fn between(room: &mut [u8], len: usize, last: bool, refusal: u8) -> Took
 }
 
 // More is waited for, or the refusal is printed.
-fn refused(room: &mut [u8], last: bool, refusal: u8) -> Took
+fn refused(room: &mut [u8], last: bool, refusal: Refusal) -> Took
     ensures { Shows (refuses last refusal) room.old room.new result }
 {
-    if (refusal == INPUT_ENDS) & !last {
+    if is_end(refusal) & !last {
         return passed(0, 0);
     }
-    stopped(room, refusal)
+    stopped(room, refusal.number())
+}
+
+// Whether the input ends inside what is read.
+fn is_end(refusal: Refusal) -> bool
+    ensures { result ≡ (number_of refusal == number_of InputEnds) }
+{
+    refusal == Refusal::InputEnds
 }
 
 fn passed(used: usize, length: usize) -> Took

@@ -4,16 +4,14 @@ use mathlib.Core.Path.{◌≡◌, refl, sym, ap, subst, subst₂, ◌∙◌}
 use mathlib.Core.Bool.{Bool, true, false, ◌&&◌}
 use mathlib.Core.List.{List, [], ◌∷◌, ◌++◌}
 use Prim.Native.Nat.{ℕ, ◌+◌}
-use lib.ListN.{drop}
 use Rattle.octets.specs.Choice.{either}
 use Rattle.octets.proofs.Truth.{both}
-use Rattle.groups.specs.Groups.{number_bytes}
+use Rattle.groups.specs.Groups.{groups_of}
 use Rattle.meters.specs.Columns.{Columns}
-use Rattle.trace.specs.declared.Entry.{Entry}
-use Rattle.trace.specs.Record.{is_one_frame, is_time, is_station, entry_of, frame_of, start_of}
+use Rattle.trace.specs.Record.{is_one_frame, is_time, is_station}
 use Rattle.trace.specs.Write.{record_bytes}
-use Rattle.trace.specs.Trace.{Arrival, records_bytes, trace_bytes, are_records, end_of}
-use Rattle.trace.proofs.Whole.{start_reads, start_rest}
+use Rattle.trace.specs.Trace.{Arrival, records_bytes, trace_bytes, are_records}
+use Rattle.trace.proofs.Whole.{start_reads}
 use Rattle.trace.proofs.Records.{entry_for, record_reads, record_frame, record_rest}
 use Rattle.play.specs.declared.Credited.{Credited}
 use Rattle.play.specs.Play.{replaying}
@@ -39,23 +37,12 @@ module _ (sum : ℕ) (a : Arrival) (time : is_time (sum + a.gap) ≡ true) (know
   abbrev s : List ℕ
   s = record_bytes a.gap a.station a.frame ++ t
 
-  entry_is : entry_of sum s ≡ entry_for a.gap a.station a.frame
-  entry_is = record_reads sum a.gap a.station a.frame time known whole t
-
-  frame_is : frame_of s (entry_of sum s) ≡ a.frame
-  frame_is = ap (frame_of s) entry_is ∙ record_frame sum a.gap a.station a.frame time known whole t
-
-  rest_is : drop (end_of sum s) s ≡ t
-  rest_is = ap (λ (e : Entry). drop (e.from + e.size) s) entry_is ∙ record_rest sum a.gap a.station a.frame time known whole t
-
   one_plays : (x y z : Centre) (r : Credited) (out : List ℕ) → PlaysFrame replaying x a.station a.frame y r → Replays (sum + a.gap) y t out z
       → Replays sum x s (line_of a.station r ++ out) z
   one_plays x y z r out p q =
-      let station-is : (entry_of sum s).station ≡ a.station = ap (λ (e : Entry). e.station) entry_is in
-      subst (λ (k : ℕ). Replays sum x s (line_of k r ++ out) z) station-is
-      (Replays.plays sum x y z s out r (ap (λ (e : Entry). e.refusal) entry_is)
-      (subst₂ (λ (k : ℕ) (f : List ℕ). PlaysFrame replaying x k f y r) (sym station-is) (sym frame_is) p)
-      (subst₂ (λ (g : ℕ) (u : List ℕ). Replays (sum + g) y u out z) (sym (ap (λ (e : Entry). e.gap) entry_is)) (sym rest_is) q))
+      Replays.plays sum x y z s out (entry_for a.gap a.station a.frame) r (record_reads sum a.gap a.station a.frame time known whole t)
+      (subst (λ (f : List ℕ). PlaysFrame replaying x a.station f y r) (sym (record_frame sum a.gap a.station a.frame time known whole t)) p)
+      (subst (λ (u : List ℕ). Replays (sum + a.gap) y u out z) (sym (record_rest sum a.gap a.station a.frame time known whole t)) q)
 
 -- records behind gaps of any sum
 pub records_play : (sum : ℕ) (x : Centre) (l : List Arrival) → are_records sum l ≡ true → (bs : List Bill) (y : Centre) → PlaysAll x (frames_of l) bs y
@@ -76,10 +63,9 @@ records_play sum x (a ∷ l) h bs y p =
 -- a whole trace
 pub trace_plays : (x : Centre) (l : List Arrival) → are_records 0 l ≡ true → (bs : List Bill) (y : Centre) → PlaysAll x (frames_of l) bs y
     → ReplaysTrace x (trace_bytes l) (lines_of bs) y
-unfolding trace_bytes
+unfolding trace_bytes groups_of
 trace_plays x l h bs y p =
-    ReplaysTrace.starts x y (trace_bytes l) (lines_of bs) (start_reads (records_bytes l))
-    (subst (λ (s : List ℕ). Replays 0 x s (lines_of bs) y) (sym (start_rest (records_bytes l))) (records_play 0 x l h bs y p))
+    ReplaysTrace.starts x y (trace_bytes l) (lines_of bs) (record { value = 1; next = 1 }) (start_reads (records_bytes l)) (records_play 0 x l h bs y p)
 
 -- what a live host recorded of its day, at whatever times
 pub replay_prints : (c : Columns) (y : Centre) (es : List Event) (bs : List Bill) → Lives (λ _. false) (daybreak c) es bs y

@@ -9,59 +9,69 @@ use Rattle.octets.specs.{Choice.either, Bytes.put_at}
 use Rattle.octets.proofs.Truth.{both}
 use Rattle.groups.specs.Groups.{groups_of, number_bytes}
 use Rattle.groups.proofs.Inverse.{most_ten}
-use Rattle.trace.specs.declared.Wrote.{Wrote}
+use Rattle.std.specs.Prelude.{Ok}
+use Rattle.refusal.specs.declared.Refusal.{TheVariants.RoomTooShort, TheVariants.StationNumber, TheVariants.TimeSum, TheVariants.NotOneFrame}
+use Rattle.groups.proofs.Goes.{ok_err}
 use Rattle.trace.specs.{Record.is_one_frame, Record.is_time, Record.is_station, Record.entry_of, Record.frame_of}
 use Rattle.trace.specs.Write.{Recorded, recorded, record_refused, record_bytes, placed_in, record_in}
+use Rattle.trace.proofs.Stepping.{ok_same}
 use Rattle.trace.proofs.Records.{entry_for, one_sized, record_reads, record_frame}
 
 -- a record that is taken passed all tests, and stands at the start of the room
-record Taken (sum gap station : ℕ) (frame room : List ℕ) (x : Recorded) : Type 0 where
+record Taken (sum gap station : ℕ) (frame : List ℕ) (n : ℕ) (room : List ℕ) : Type 0 where
   time : is_time (sum + gap) ≡ true
   known : is_station station ≡ true
   whole : is_one_frame frame ≡ true
-  long : x.answer.length ≡ length (record_bytes gap station frame)
+  long : n ≡ length (record_bytes gap station frame)
   rest : List ℕ
-  stands : x.room ≡ record_bytes gap station frame ++ rest
+  stands : room ≡ record_bytes gap station frame ++ rest
 
 at_start : (d vs : List ℕ) → length vs ≤ length d → put_at d 0 vs ≡ vs ++ drop (0 + length vs) d
 unfolding put_at
 at_start d vs h = simp (le-leb (0 + length vs) (length d) (omega arith))
 
 module _ (sum gap station : ℕ) (frame room : List ℕ) where
-  placed : is_time (sum + gap) ≡ true → is_station station ≡ true → is_one_frame frame ≡ true → (placed_in (record_bytes gap station frame) room).answer.refusal ≡ 0
-      → Taken sum gap station frame room (placed_in (record_bytes gap station frame) room)
+  -- what is said of an answer that is a length
+  abbrev Takes : Recorded → Type 0
+  Takes x = (n : ℕ) → x.answer ≡ Ok n → Taken sum gap station frame n x.room
+
+  placed : is_time (sum + gap) ≡ true → is_station station ≡ true → is_one_frame frame ≡ true → Takes (placed_in (record_bytes gap station frame) room)
   unfolding placed_in
   placed a b c = go (leb (length vs) (length room)) refl
     where
       vs : List ℕ
       vs = record_bytes gap station frame
 
-      go : (t : Bool) → leb (length vs) (length room) ≡ t
-          → (either t (λ _. recorded (record { refusal = 0; length = length vs }) (put_at room 0 vs)) (λ _. record_refused 20 room)).answer.refusal ≡ 0
-          → Taken sum gap station frame room (either t (λ _. recorded (record { refusal = 0; length = length vs }) (put_at room 0 vs)) (λ _. record_refused 20 room))
-      go true e z = record { time = a; known = b; whole = c; long = refl; rest = drop (0 + length vs) room; stands = at_start room vs (leb-true (length vs) (length room) e) }
-      go false e z = absurd (omega arith)
+      go : (t : Bool) → leb (length vs) (length room) ≡ t → Takes (either t (λ _. recorded (Ok (length vs)) (put_at room 0 vs)) (λ _. record_refused RoomTooShort room))
+      go true e n z = record {
+        time = a;
+        known = b;
+        whole = c;
+        long = sym (ok_same z);
+        rest = drop (0 + length vs) room;
+        stands = at_start room vs (leb-true (length vs) (length room) e);
+      }
+      go false e n z = absurd (ok_err (sym z))
 
-  taken : (record_in sum gap station frame room).answer.refusal ≡ 0 → Taken sum gap station frame room (record_in sum gap station frame room)
+  taken : Takes (record_in sum gap station frame room)
   unfolding record_in
   taken = go (is_time (sum + gap)) (is_station station) (is_one_frame frame) refl refl refl
     where
       go : (a b c : Bool) → is_time (sum + gap) ≡ a → is_station station ≡ b → is_one_frame frame ≡ c
-          → (either a (λ _. either b (λ _. either c (λ _. placed_in (record_bytes gap station frame) room) (λ _. record_refused 35 room)) (λ _. record_refused 25 room)) (λ _. record_refused 34 room)).answer.refusal ≡ 0
-          → Taken sum gap station frame room (either a (λ _. either b (λ _. either c (λ _. placed_in (record_bytes gap station frame) room) (λ _. record_refused 35 room)) (λ _. record_refused 25 room)) (λ _. record_refused 34 room))
-      go true true true e f g z = placed e f g z
-      go true true false e f g z = absurd (omega arith)
-      go true false c e f g z = absurd (omega arith)
-      go false b c e f g z = absurd (omega arith)
+          → Takes (either a (λ _. either b (λ _. either c (λ _. placed_in (record_bytes gap station frame) room) (λ _. record_refused NotOneFrame room)) (λ _. record_refused StationNumber room)) (λ _. record_refused TimeSum room))
+      go true true true e f g n z = placed e f g n z
+      go true true false e f g n z = absurd (ok_err (sym z))
+      go true false c e f g n z = absurd (ok_err (sym z))
+      go false b c e f g n z = absurd (ok_err (sym z))
 
-  module _ (w : Wrote) (d : List ℕ) (q : recorded w d ≡ record_in sum gap station frame room) (z : w.refusal ≡ 0) where
-    was : Taken sum gap station frame room (recorded w d)
-    was = subst (λ (x : Recorded). Taken sum gap station frame room x) (sym q) (taken (subst (λ (x : Recorded). x.answer.refusal ≡ 0) q z))
+  module _ (n : ℕ) (d : List ℕ) (q : recorded (Ok n) d ≡ record_in sum gap station frame room) where
+    was : Taken sum gap station frame n d
+    was = subst Takes (sym q) taken n refl
 
-    pub write_reads : entry_of sum d ≡ entry_for gap station frame
+    pub write_reads : entry_of sum d ≡ Ok (entry_for gap station frame)
     write_reads = let t = was in ap (entry_of sum) t.stands ∙ record_reads sum gap station frame t.time t.known t.whole t.rest
 
-    pub write_length : w.length ≡ length (record_bytes gap station frame)
+    pub write_length : n ≡ length (record_bytes gap station frame)
     write_length = was.long
 
     pub write_frame : frame_of d (entry_for gap station frame) ≡ frame

@@ -1,26 +1,28 @@
 -- What a caller needs of a record that is read, and of a start: the number of a station, a sum that fits, and a frame that is there. Each law in
 -- the shape of a caller's need, with the call's own equation as a premise. Assumes nothing.
-use mathlib.Core.{Path.◌≡◌, Path.refl, Path.sym, Path.ap, Path.subst, Path.◌∙◌, List.List}
-use mathlib.Core.Bool.{Bool, true, false}
+use mathlib.Core.{Path.◌≡◌, Path.refl, Path.sym, Path.subst, Path.◌∙◌, List.List}
+use mathlib.Core.Bool.{true}
 use Prim.Native.Nat.{ℕ, suc, ◌+◌, ◌-◌, ◌^◌, ◌≤◌, ◌<◌}
 use native.Mathlib.Omega.{arith}
 use mir.Syntax.{w64}
 use mir.Val.{Fits}
 use lib.{Dec.eqb, Dec.leb, ListN.length, ListN.take, ListN.drop, ListN.length-drop, Seq.length-take-le}
-use borrow.Author.Tests.{leb-true, ltb-true, eqb-true, eqb-false}
-use Rattle.octets.specs.{Choice.either}
+use borrow.Author.Tests.{leb-true, ltb-true, eqb-true}
 use Rattle.octets.proofs.Truth.{both}
+use Rattle.std.specs.Prelude.{Result, Ok, IfOk}
+use Rattle.refusal.specs.declared.Refusal.{Refusal, TheVariants.NotATrace}
 use Rattle.groups.specs.declared.Number.{Number}
-use Rattle.groups.specs.Groups.{refused_number, number_at}
-use Rattle.groups.proofs.{Ways.Way, Ways.way, Inverse.within, Inverse.forward, Inverse.near}
+use Rattle.groups.specs.Groups.{last_group, number_at}
+use Rattle.groups.proofs.{Ways.Way, Ways.way, Ways.on_way, Inverse.within, Inverse.forward, Inverse.near, Goes.ok_err}
 use Rattle.trace.specs.declared.Entry.{Entry}
 use Rattle.trace.specs.Record.{is_one_frame, entry_of, frame_of, start_of}
 use Rattle.trace.specs.Trace.{end_of}
 use Rattle.trace.proofs.Apart.{Apart, apart}
+use Rattle.trace.proofs.Stepping.{by_step, ok_same}
 
-module _ (sum : ℕ) (s : List ℕ) (e : Entry) (q : e ≡ entry_of sum s) (z : e.refusal ≡ 0) where
+module _ (sum : ℕ) (s : List ℕ) (a : Result Entry Refusal) (e : Entry) (q : a ≡ entry_of sum s) (z : a ≡ Ok e) where
   parts : Apart sum s e
-  parts = subst (λ (x : Entry). Apart sum s x) (sym q) (apart sum s (rw q at z))
+  parts = apart sum s e (sym q ∙ z)
 
   pub station_below : e.station < 64
   station_below = omega (arith, leb-true e.station 63 parts.known)
@@ -46,17 +48,17 @@ module _ (sum : ℕ) (s : List ℕ) (e : Entry) (q : e ≡ entry_of sum s) (z : 
   pub frame_behind : 0 < e.from
   frame_behind =
       let p = parts in
-      let h : p.third < (number_at s p.third).next = forward s p.third (ap (λ (n : Number). n.refusal) p.size) in
-      omega (arith, ap (λ (n : Number). n.next) p.size)
+      let h : p.third < e.from = forward s p.third (last_group e.size e.from) p.size in
+      omega arith
 
   -- three numbers of at most ten bytes stand in front of it
   pub frame_near : e.from ≤ 30
   frame_near =
       let p = parts in
-      let a : (number_at s 0).next ≤ 0 + 10 = near s 0 (ap (λ (n : Number). n.refusal) p.gap) in
-      let b : (number_at s p.second).next ≤ p.second + 10 = near s p.second (ap (λ (n : Number). n.refusal) p.station) in
-      let c : (number_at s p.third).next ≤ p.third + 10 = near s p.third (ap (λ (n : Number). n.refusal) p.size) in
-      omega (arith, ap (λ (n : Number). n.next) p.gap, ap (λ (n : Number). n.next) p.station, ap (λ (n : Number). n.next) p.size)
+      let a : p.second ≤ 0 + 10 = near s 0 (last_group e.gap p.second) p.gap in
+      let b : p.third ≤ p.second + 10 = near s p.second (last_group e.station p.third) p.station in
+      let c : e.from ≤ p.third + 10 = near s p.third (last_group e.size e.from) p.size in
+      omega arith
 
   pub end_fits : Fits w64 (e.from + e.size)
   end_fits = record { fits = omega (arith, frame_near, size_most) }
@@ -77,83 +79,69 @@ module _ (sum : ℕ) (s : List ℕ) (e : Entry) (q : e ≡ entry_of sum s) (z : 
 pub ruleset entries = (station_below, sum_fits, frame_there, frame_forward, size_some, size_most, frame_behind, frame_near, end_fits, sum_word, frame_is_one, frame_long, frame_cut)
 
 -- the same of the definition itself
-module _ (sum : ℕ) (s : List ℕ) (z : (entry_of sum s).refusal ≡ 0) where
-  pub read_station_below : (entry_of sum s).station < 64
-  read_station_below = station_below sum s (entry_of sum s) refl z
+module _ (sum : ℕ) (s : List ℕ) (e : Entry) (z : entry_of sum s ≡ Ok e) where
+  pub read_station_below : e.station < 64
+  read_station_below = station_below sum s (entry_of sum s) e refl z
 
-  pub read_sum_fits : sum + (entry_of sum s).gap < 2 ^ 64
-  read_sum_fits = sum_fits sum s (entry_of sum s) refl z
+  pub read_sum_fits : sum + e.gap < 2 ^ 64
+  read_sum_fits = sum_fits sum s (entry_of sum s) e refl z
 
-  pub read_frame_there : end_of sum s ≤ length s
-  read_frame_there = frame_there sum s (entry_of sum s) refl z
+  pub read_frame_there : end_of e ≤ length s
+  read_frame_there = frame_there sum s (entry_of sum s) e refl z
 
-  pub read_size_some : 13 ≤ (entry_of sum s).size
-  read_size_some = size_some sum s (entry_of sum s) refl z
+  pub read_size_some : 13 ≤ e.size
+  read_size_some = size_some sum s (entry_of sum s) e refl z
 
-  pub read_frame_behind : 0 < (entry_of sum s).from
-  read_frame_behind = frame_behind sum s (entry_of sum s) refl z
+  pub read_frame_behind : 0 < e.from
+  read_frame_behind = frame_behind sum s (entry_of sum s) e refl z
 
-  pub read_frame_is_one : is_one_frame (frame_of s (entry_of sum s)) ≡ true
-  read_frame_is_one = frame_is_one sum s (entry_of sum s) refl z
+  pub read_frame_is_one : is_one_frame (frame_of s e) ≡ true
+  read_frame_is_one = frame_is_one sum s (entry_of sum s) e refl z
 
-  pub read_frame_long : length (frame_of s (entry_of sum s)) ≡ (entry_of sum s).size
-  read_frame_long = frame_long sum s (entry_of sum s) refl z
-
-pub ruleset read_entries = (read_station_below, read_sum_fits, read_frame_there, read_size_some, read_frame_behind, read_frame_is_one, read_frame_long)
+  pub read_frame_long : length (frame_of s e) ≡ e.size
+  read_frame_long = frame_long sum s (entry_of sum s) e refl z
 
 -- a number below 128 is one byte
-small_one : (s : List ℕ) (more at : ℕ) (r : Number) → Way s more at r → r.refusal ≡ 0 → r.value < 128 → r.next ≡ suc at
-small_one s more at r (Way.ended m k h) z l = absurd (omega arith)
-small_one s more at r (Way.over k h g) z l = absurd (omega arith)
-small_one s more at r (Way.bit k h g) z l = refl
-small_one s more at r (Way.last m k h g) z l = refl
-small_one s more at r (Way.refused m k o h g w f) z l = absurd (f z)
-small_one s more at r (Way.longer m k o h g w f y) z l = absurd (omega arith)
-small_one s more at r (Way.front m k o h g w f y) z l = absurd (omega arith)
+small_one : (s : List ℕ) (more at : ℕ) (r : Result Number Refusal) → Way s more at r → IfOk r (λ o. o.value < 128 → o.next ≡ suc at)
+small_one s more at r (Way.ended m k h) = tt
+small_one s more at r (Way.over k h g) = tt
+small_one s more at r (Way.bit k h g) = λ l. refl
+small_one s more at r (Way.last m k h g) = λ l. refl
+small_one s more at r (Way.refused m k x h g w) = tt
+small_one s more at r (Way.longer m k o h g w y) = tt
+small_one s more at r (Way.front m k o h g w y) = λ l. absurd (omega arith)
 
--- whatever holds by the first number holds of the start
-pub by_start : (s : List ℕ) (P : Number → Type 0) → (((number_at s 0).refusal ≡ 0 → ⊥) → P (number_at s 0)) → ((number_at s 0).refusal ≡ 0 → ((number_at s 0).value ≡ 1 → ⊥) → P (refused_number 31))
-    → ((number_at s 0).refusal ≡ 0 → (number_at s 0).value ≡ 1 → P (number_at s 0)) → P (start_of s)
+-- the first number is what is read of the start
+pub start_number : (s : List ℕ) (n : Number) → start_of s ≡ Ok n → (number_at s 0 ≡ Ok n) × (n.value ≡ 1)
 unfolding start_of
-by_start s P a b c = go (eqb (number_at s 0).refusal 0) (eqb (number_at s 0).value 1) refl refl
-  where
-    go : (t u : Bool) → eqb (number_at s 0).refusal 0 ≡ t → eqb (number_at s 0).value 1 ≡ u → P (either t (λ _. either u (λ _. number_at s 0) (λ _. refused_number 31)) (λ _. number_at s 0))
-    go false u e f = a (eqb-false (number_at s 0).refusal 0 e)
-    go true false e f = b (eqb-true (number_at s 0).refusal 0 e) (eqb-false (number_at s 0).value 1 f)
-    go true true e f = c (eqb-true (number_at s 0).refusal 0 e) (eqb-true (number_at s 0).value 1 f)
+start_number s n =
+    by_step (number_at s 0) (λ v. eqb v 1) (λ o. Ok o) NotATrace (λ r. r ≡ Ok n → (number_at s 0 ≡ Ok n) × (n.value ≡ 1))
+    (λ j e z. absurd (ok_err (sym z)))
+    (λ o e t z. absurd (ok_err (sym z)))
+    (λ o e t z. (e ∙ z, eqb-true n.value 1 (subst (λ (m : Number). eqb m.value 1 ≡ true) (ok_same z) t)))
 
-pub start_number : (s : List ℕ) → (start_of s).refusal ≡ 0 → (start_of s ≡ number_at s 0) × ((number_at s 0).value ≡ 1)
-start_number s =
-    by_start s (λ n. n.refusal ≡ 0 → (n ≡ number_at s 0) × ((number_at s 0).value ≡ 1)) (λ f z. absurd (f z)) (λ y f z. absurd (omega arith)) (λ y v z. (refl, v))
-
-module _ (s : List ℕ) (n : Number) (q : n ≡ start_of s) (z : n.refusal ≡ 0) where
-  first : (n ≡ number_at s 0) × ((number_at s 0).value ≡ 1)
-  first = let p = start_number s (rw q at z) in (q ∙ p.0, p.1)
+module _ (s : List ℕ) (a : Result Number Refusal) (n : Number) (q : a ≡ start_of s) (z : a ≡ Ok n) where
+  first : (number_at s 0 ≡ Ok n) × (n.value ≡ 1)
+  first = start_number s n (sym q ∙ z)
 
   pub start_one : n.value ≡ 1
-  start_one = ap (λ (m : Number). m.value) first.0 ∙ first.1
+  start_one = first.1
 
   pub start_next : n.next ≡ 1
-  start_next =
-      let e = first.0 in
-      rw e (small_one s 9 0 (number_at s 0) (way s 9 0) (rw e at z) (omega (arith, first.1)))
+  start_next = on_way s 9 0 (λ o. o.value < 128 → o.next ≡ suc 0) (small_one s 9 0 (number_at s 0) (way s 9 0)) n first.0 (omega (arith, first.1))
 
   pub start_there : n.next ≤ length s
-  start_there = rw first.0 (within s 0 (rw first.0 at z))
+  start_there = within s 0 n first.0
 
   pub start_forward : 0 < n.next
   start_forward = omega (arith, start_next)
 
-pub ruleset starts = (start_one, start_next, start_there, start_forward)
+module _ (s : List ℕ) (n : Number) (z : start_of s ≡ Ok n) where
+  pub read_start_one : n.value ≡ 1
+  read_start_one = start_one s (start_of s) n refl z
 
-module _ (s : List ℕ) (z : (start_of s).refusal ≡ 0) where
-  pub read_start_one : (start_of s).value ≡ 1
-  read_start_one = start_one s (start_of s) refl z
+  pub read_start_next : n.next ≡ 1
+  read_start_next = start_next s (start_of s) n refl z
 
-  pub read_start_next : (start_of s).next ≡ 1
-  read_start_next = start_next s (start_of s) refl z
-
-  pub read_start_there : (start_of s).next ≤ length s
-  read_start_there = start_there s (start_of s) refl z
-
-pub ruleset read_starts = (read_start_one, read_start_next, read_start_there)
+  pub read_start_there : n.next ≤ length s
+  read_start_there = start_there s (start_of s) n refl z

@@ -13,7 +13,8 @@ use Rattle.forms.specs.Code.Put.{Put, put, put_parts, joined}
 use Rattle.forms.proofs.{Putting.parts_then, Putting.fits_parts, Putting.joined_join, Decimals.joined_each}
 use Rattle.groups.specs.{Groups.groups_of, Groups.number_bytes, Code.Parts.group_parts}
 use Rattle.groups.proofs.Inverse.{most_ten}
-use Rattle.trace.specs.declared.Wrote.{Wrote}
+use Rattle.std.specs.Prelude.{Ok, Err}
+use Rattle.refusal.specs.declared.Refusal.{TheVariants.RoomTooShort, TheVariants.StationNumber, TheVariants.TimeSum, TheVariants.NotOneFrame}
 use Rattle.trace.specs.Record.{is_one_frame, is_time}
 use Rattle.trace.proofs.Reading.{station_small}
 use Rattle.trace.specs.Write.{Recorded, recorded, placed_in, record_bytes, record_in, start_in}
@@ -55,14 +56,13 @@ module _ (head rest d : List ℕ) where
   long : length (head ++ rest) ≡ length head + length rest
   long = length-append head rest
 
-  module _ (w : Wrote) (e : w ≡ record { refusal = 20; length = 0 }) where
-    pub rest_out : length d < length rest → recorded w d ≡ placed_in (head ++ rest) d
-    unfolding placed_in
-    rest_out h = let n = long in simp (e, lt-leb (length (head ++ rest)) (length d) (omega arith))
+  pub rest_out : length d < length rest → recorded (Err RoomTooShort) d ≡ placed_in (head ++ rest) d
+  unfolding placed_in
+  rest_out h = let n = long in simp (lt-leb (length (head ++ rest)) (length d) (omega arith))
 
-    pub head_out : length d - length rest < length head → recorded w d ≡ placed_in (head ++ rest) d
-    unfolding placed_in
-    head_out h = let n = long in simp (e, lt-leb (length (head ++ rest)) (length d) (omega arith))
+  pub head_out : length d - length rest < length head → recorded (Err RoomTooShort) d ≡ placed_in (head ++ rest) d
+  unfolding placed_in
+  head_out h = let n = long in simp (lt-leb (length (head ++ rest)) (length d) (omega arith))
 
   both_joined : joined (head ∷ (rest ∷ [])) ≡ head ++ rest
   unfolding joined
@@ -75,11 +75,11 @@ module _ (head rest d : List ℕ) where
         (parts_then (head ∷ []) (rest ∷ []) (put d 0) (put x j) (put y k) e f
         ∙ fits_parts (head ∷ (rest ∷ [])) d 0 (let n = long in rw both_joined (omega arith)))
 
-    pub both_in : recorded (record { refusal = 0; length = k }) y ≡ placed_in (head ++ rest) d
+    pub both_in : recorded (Ok k) y ≡ placed_in (head ++ rest) d
     unfolding placed_in
     both_in =
         let n = long in
-        simp (le-leb (length (head ++ rest)) (length d) (omega arith)) (ap (λ (o : Put). recorded (record { refusal = 0; length = o.next }) o.room) both_stand)
+        simp (le-leb (length (head ++ rest)) (length d) (omega arith)) (ap (λ (o : Put). recorded (Ok o.next) o.room) both_stand)
 
 pub ruleset placing = (rest_out, head_out, both_in)
 
@@ -93,19 +93,19 @@ numbers_taken d n h = sym (length-take-le n d h)
 
 -- a record
 module _ (sum gap station : ℕ) (frame d : List ℕ) (b : Bool) (q : b ≡ is_time (sum + gap)) where
-  pub time_refused : (w : Wrote) → not b ≡ true → w ≡ record { refusal = 34; length = 0 } → recorded w d ≡ record_in sum gap station frame d
+  pub time_refused : not b ≡ true → recorded (Err TimeSum) d ≡ record_in sum gap station frame d
   unfolding record_in
-  time_refused w t e = simp (e, ← q, not-true b t)
+  time_refused t = simp (← q, not-true b t)
 
   module _ (t : not b ≡ false) where
-    pub station_refused : (w : Wrote) → 63 < station → w ≡ record { refusal = 25; length = 0 } → recorded w d ≡ record_in sum gap station frame d
+    pub station_refused : 63 < station → recorded (Err StationNumber) d ≡ record_in sum gap station frame d
     unfolding record_in
-    station_refused w h e = simp (e, ← q, not-false b t, lt-leb station 63 h)
+    station_refused h = simp (← q, not-false b t, lt-leb station 63 h)
 
     module _ (h : station ≤ 63) (c : Bool) (f : c ≡ is_one_frame frame) where
-      pub frame_refused : (w : Wrote) → not c ≡ true → w ≡ record { refusal = 35; length = 0 } → recorded w d ≡ record_in sum gap station frame d
+      pub frame_refused : not c ≡ true → recorded (Err NotOneFrame) d ≡ record_in sum gap station frame d
       unfolding record_in
-      frame_refused w u e = simp (e, ← q, not-false b t, le-leb station 63 h, ← f, not-true c u)
+      frame_refused u = simp (← q, not-false b t, le-leb station 63 h, ← f, not-true c u)
 
       pub record_placed : (numbers : List ℕ) (r : Recorded) → not c ≡ false → numbers ≡ number_bytes gap ++ (number_bytes station ++ number_bytes (length frame))
           → r ≡ placed_in (numbers ++ frame) d → r ≡ record_in sum gap station frame d

@@ -14,7 +14,7 @@ use Rattle.std.specs.Prelude.{Ok, Err}
 use Rattle.refusal.specs.declared.Refusal.{Refusal, TheVariants.FrameIncomplete, TheVariants.FrameIdentifier, TheVariants.Size}
 use Rattle.frame.specs.Frame.{Framed, identifier, agrees, size_of, framed_of, frame_refusal, used_of}
 use Rattle.frame.proofs.Format.{refused_number}
-use Rattle.groups.specs.declared.Number.{Number}
+use Rattle.std.specs.Prelude.{Ok}
 use Rattle.groups.specs.Groups.{last_group, number_bytes, number_at}
 use Rattle.groups.proofs.Inverse.{written_read, read_written}
 use Rattle.trace.specs.declared.Entry.{Entry}
@@ -56,7 +56,7 @@ head_of gap station frame = number_bytes gap ++ (number_bytes station ++ number_
 
 -- a record as it is read
 abbrev pub entry_for : ℕ → ℕ → List ℕ → Entry
-entry_for gap station frame = record { refusal = 0; gap = gap; station = station; from = length (head_of gap station frame); size = length frame }
+entry_for gap station frame = record { gap = gap; station = station; from = length (head_of gap station frame); size = length frame }
 
 module _ (sum gap station : ℕ) (frame : List ℕ) (time : is_time (sum + gap) ≡ true) (known : is_station station ≡ true) (whole : is_one_frame frame ≡ true) (t : List ℕ) where
   abbrev a : List ℕ
@@ -93,7 +93,7 @@ module _ (sum gap station : ℕ) (frame : List ℕ) (time : is_time (sum + gap) 
   pub record_rest : drop (length (head_of gap station frame) + length frame) (record_bytes gap station frame ++ t) ≡ t
   record_rest = after s (length (head_of gap station frame)) frame t at_frame
 
-  pub record_reads : entry_of sum (record_bytes gap station frame ++ t) ≡ record { refusal = 0; gap = gap; station = station; from = length (number_bytes gap ++ (number_bytes station ++ number_bytes (length frame))); size = length frame }
+  pub record_reads : entry_of sum (record_bytes gap station frame ++ t) ≡ Ok (record { gap = gap; station = station; from = length (number_bytes gap ++ (number_bytes station ++ number_bytes (length frame))); size = length frame })
   record_reads =
       let sized = one_sized frame whole in
       let most = leb-true (length frame) 4108 (both (leb 13 (length frame)) (leb (length frame) 4108) sized).1 in
@@ -101,7 +101,6 @@ module _ (sum gap station : ℕ) (frame : List ℕ) (time : is_time (sum + gap) 
       (record {
         second = 0 + length a;
         third = 0 + length a + length b;
-        read = refl;
         gap = written_read gap (omega (arith, ltb-true (sum + gap) (2 ^ 64) time)) s 0 (b ++ (c ++ (frame ++ t))) at_first;
         time = time;
         station = written_read station (omega (arith, leb-true station 63 known)) s (0 + length a) (c ++ (frame ++ t)) at_second;
@@ -114,26 +113,21 @@ module _ (sum gap station : ℕ) (frame : List ℕ) (time : is_time (sum + gap) 
       })
 
 -- bytes that are read as a record are those that write it
-numbers_written : (s : List ℕ) → IsBytes s → (at v next : ℕ) → number_at s at ≡ last_group v next → drop at s ≡ number_bytes v ++ drop next s
-numbers_written s c at v next e =
-    let w = read_written s at c (ap (λ (n : Number). n.refusal) e) in
-    w.bytes ∙ ap (λ (n : Number). number_bytes n.value ++ drop n.next s) e
+numbers_written : (s : List ℕ) → IsBytes s → (at v next : ℕ) → number_at s at ≡ Ok (last_group v next) → drop at s ≡ number_bytes v ++ drop next s
+numbers_written s c at v next e = (read_written s at (last_group v next) e c).bytes
 
-module _ (sum : ℕ) (s : List ℕ) (bytes : IsBytes s) (z : (entry_of sum s).refusal ≡ 0) where
-  abbrev e : Entry
-  e = entry_of sum s
-
-  frame_stands : drop e.from s ≡ frame_of s e ++ drop (end_of sum s) s
+module _ (sum : ℕ) (s : List ℕ) (bytes : IsBytes s) (e : Entry) (z : entry_of sum s ≡ Ok e) where
+  frame_stands : drop e.from s ≡ frame_of s e ++ drop (end_of e) s
   frame_stands = sym (take-append-drop e.size (drop e.from s)) ∙ ap (λ (l : List ℕ). frame_of s e ++ l) (drop-drop e.size e.from s)
 
-  pub read_record : s ≡ record_bytes (entry_of sum s).gap (entry_of sum s).station (frame_of s (entry_of sum s)) ++ drop (end_of sum s) s
+  pub read_record : s ≡ record_bytes e.gap e.station (frame_of s e) ++ drop (end_of e) s
   unfolding record_bytes
   read_record =
-      let p = apart sum s z in
+      let p = apart sum s e z in
       simp append_assoc
       (numbers_written s bytes 0 e.gap p.second p.gap
       ∙ ap (λ (l : List ℕ). number_bytes e.gap ++ l)
       (numbers_written s bytes p.second e.station p.third p.station
       ∙ ap (λ (l : List ℕ). number_bytes e.station ++ l)
       (numbers_written s bytes p.third e.size e.from p.size
-      ∙ ap₂ (λ (n : ℕ) (l : List ℕ). number_bytes n ++ l) (sym (read_frame_long sum s z)) frame_stands)))
+      ∙ ap₂ (λ (n : ℕ) (l : List ℕ). number_bytes n ++ l) (sym (read_frame_long sum s e z)) frame_stands)))

@@ -1,11 +1,12 @@
 -- Document 02, Q-3, a trace's records: "nanoseconds since the previous record, station number, length, and that many bytes of a whole frame".
-use Rattle.std.specs.Prelude.{ℕ, ◌+◌, ◌^◌}
+use Rattle.std.specs.Prelude.{ℕ, ◌+◌, ◌^◌, Result, Ok, Err}
 use mathlib.Core.{Bool.Bool, Bool.◌&&◌, List.List}
 use lib.{Dec.eqb, Dec.leb, Dec.ltb, ListN.length, ListN.take, ListN.drop}
 use Rattle.octets.specs.Choice.{either}
 use Rattle.frame.specs.Frame.{framed_of, frame_refusal, used_of}
+use Rattle.refusal.specs.declared.Refusal.{Refusal, TheVariants.NotATrace, TheVariants.StationNumber, TheVariants.InputEnds, TheVariants.TimeSum, TheVariants.NotOneFrame}
 use Rattle.groups.specs.declared.Number.{Number}
-use Rattle.groups.specs.Groups.{number_at}
+use Rattle.groups.specs.Groups.{on_number, number_at}
 use Rattle.trace.specs.declared.Entry.{Entry}
 
 -- "bytes not exactly one whole frame" (35)
@@ -24,39 +25,29 @@ is_time t = ltb t (2 ^ 64)
 abbrev pub is_station : ℕ → Bool
 is_station n = leb n 63
 
-abbrev pub refused_entry : ℕ → Entry
-refused_entry k = record { refusal = k; gap = 0; station = 0; from = 0; size = 0 }
-
--- a number as it is read, or its refusal
-abbrev pub on_number : Number → (Number → Entry) → Entry
-on_number n f = either (eqb n.refusal 0) (λ _. f n) (λ _. refused_entry n.refusal)
-
 -- so many bytes from a place on: they are all there (33) and one frame (35)
-unfoldable pub frame_at : List ℕ → ℕ → ℕ → ℕ → ℕ → Entry
+unfoldable pub frame_at : List ℕ → ℕ → ℕ → ℕ → ℕ → Result Entry Refusal
 frame_at s gap station from size =
     either (leb (from + size) (length s))
-    (λ _. either (is_one_frame (take size (drop from s))) (λ _. record { refusal = 0; gap = gap; station = station; from = from; size = size }) (λ _. refused_entry 35))
-    (λ _. refused_entry 33)
+    (λ _. either (is_one_frame (take size (drop from s))) (λ _. Ok (record { gap = gap; station = station; from = from; size = size })) (λ _. Err NotOneFrame))
+    (λ _. Err InputEnds)
 
 -- from left to right: the length (33, 32) and its range (35)
-unfoldable pub length_at : List ℕ → ℕ → ℕ → ℕ → Entry
-length_at s gap station at = on_number (number_at s at) (λ n. either (is_frame_length n.value) (λ _. frame_at s gap station n.next n.value) (λ _. refused_entry 35))
+unfoldable pub length_at : List ℕ → ℕ → ℕ → ℕ → Result Entry Refusal
+length_at s gap station at = on_number (number_at s at) (λ n. either (is_frame_length n.value) (λ _. frame_at s gap station n.next n.value) (λ _. Err NotOneFrame))
 
 -- the station (33, 32) and its range (25)
-unfoldable pub station_at : List ℕ → ℕ → ℕ → Entry
-station_at s gap at = on_number (number_at s at) (λ n. either (is_station n.value) (λ _. length_at s gap n.value n.next) (λ _. refused_entry 25))
+unfoldable pub station_at : List ℕ → ℕ → ℕ → Result Entry Refusal
+station_at s gap at = on_number (number_at s at) (λ n. either (is_station n.value) (λ _. length_at s gap n.value n.next) (λ _. Err StationNumber))
 
 -- the record at the start of the bytes, where the gaps before it have this sum: the gap (33, 32) and its sum (34), and so on
-unfoldable pub entry_of : ℕ → List ℕ → Entry
-entry_of sum s = on_number (number_at s 0) (λ n. either (is_time (sum + n.value)) (λ _. station_at s n.value n.next) (λ _. refused_entry 34))
+unfoldable pub entry_of : ℕ → List ℕ → Result Entry Refusal
+entry_of sum s = on_number (number_at s 0) (λ n. either (is_time (sum + n.value)) (λ _. station_at s n.value n.next) (λ _. Err TimeSum))
 
 -- the frame of a record that is read
 abbrev pub frame_of : List ℕ → Entry → List ℕ
 frame_of s e = take e.size (drop e.from s)
 
 -- a trace's first number is 1 (31)
-unfoldable pub start_of : List ℕ → Number
-start_of s =
-    either (eqb (number_at s 0).refusal 0)
-    (λ _. either (eqb (number_at s 0).value 1) (λ _. number_at s 0) (λ _. record { refusal = 31; value = 0; next = 0 }))
-    (λ _. number_at s 0)
+unfoldable pub start_of : List ℕ → Result Number Refusal
+start_of s = on_number (number_at s 0) (λ n. either (eqb n.value 1) (λ _. Ok n) (λ _. Err NotATrace))

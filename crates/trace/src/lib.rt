@@ -3,7 +3,6 @@
 
 mod reader;
 mod recorder;
-mod refusals;
 
 ghost use Rattle.std.specs.Prelude.{◌≡◌, ◌+◌};
 ghost use Rattle.trace.specs.Record.{is_one_frame, is_time};
@@ -14,24 +13,17 @@ pub use recorder::{write, write_start};
 // Stations are numbered from 0.
 const MOST_STATION: u64 = 63;
 
-// A record: its gap, its station, where its frame begins and how long it is; the record ends with it. Or a refusal, and zeros besides.
-#[derive(Clone, Copy)]
+// A record: its gap, its station, where its frame begins and how long it is; the record ends with it.
+#[derive(Clone, Copy, Debug, PartialEq, Eq)]
 pub struct Entry {
-    pub refusal: u8,
     pub gap: u64,
     pub station: u64,
     pub from: usize,
     pub size: usize,
 }
 
-// How many bytes stand in the room; or a refusal and 0.
-#[derive(Clone, Copy)]
-pub struct Wrote {
-    pub refusal: u8,
-    pub length: usize,
-}
-
 // Whether the bytes are one whole frame and no more.
+#[tactic(auto, using(crate::proofs::Reading::frames))]
 fn is_one_frame(f: &[u8]) -> bool
     ensures { result ≡ is_one_frame f.now }
 {

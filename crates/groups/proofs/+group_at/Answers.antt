@@ -1,19 +1,8 @@
-use borrow.Author.Rules.{rules}
-use Rattle.groups.proofs.Reading.{groups}
-use Rattle.std.proofs.Common.{rules}
+use Rattle.groups.proofs.Reading.{at_refused, at_more}
 use Rattle.groups.proofs.+group_at.Goals as goal
 
-pub returns-then-s-at : goal.returns-then-s-at
-returns-then-s-at t c = search (groups, rules)
-
-pub returns-then-more-eq0 : goal.returns-then-more-eq0
-returns-then-more-eq0 t c = search (groups, rules)
-
-pub returns-then-b-lt-HIGH : goal.returns-then-b-lt-HIGH
-returns-then-b-lt-HIGH t c = search (groups, rules)
-
-pub behind-requires : goal.behind-requires
-behind-requires t c = search (groups, rules)
+pub returns-in_err-others : goal.returns-in_err-others
+returns-in_err-others t c = at_refused c.args.s.now c.args.at c.if-s-at.false c.group_at.result c.args.more c.in_err-others.field-0.0 c.if-more-eq0.false c.if-b-lt-HIGH.false c.group_at.ensures c.in_err-others.was c.from_residual.result c.from_residual.ensures.1
 
 pub returns : goal.returns
-returns t c = search (groups, rules)
+returns t c = at_more c.args.s.now c.args.at c.if-s-at.false c.group_at.result c.args.more c.in_ok-others.others c.if-more-eq0.false c.if-b-lt-HIGH.false c.group_at.ensures c.in_ok-others.was c.behind.result c.behind.ensures

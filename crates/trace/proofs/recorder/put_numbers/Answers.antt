@@ -1,10 +1,7 @@
 use borrow.Author.Rules.{rules}
-use Rattle.trace.proofs.Recording.{numbers}
 use Rattle.std.proofs.Common.{rules}
+use Rattle.trace.proofs.Recording.{numbers}
 use Rattle.trace.proofs.recorder.put_numbers.Goals as goal
-
-pub returns-clause-is : goal.returns-clause-is
-returns-clause-is c = search (numbers, rules)
 
 pub returns-clause-there : goal.returns-clause-there
 returns-clause-there c = search (numbers, rules)
