@@ -7,6 +7,8 @@ use Prim.Native.Nat.{ℕ}
 use lib.{IntN.ℤ, ListN.length, ListN.get_or, ListN.drop}
 use mir.Syntax.{w8}
 use mir.Val.{Val, Fits}
+use Rattle.std.specs.Prelude.{Option, Some, None}
+use Rattle.std.proofs.lemmas.Option.{same_Some, none-some}
 use Rattle.octets.specs.Bytes.{IsBytes}
 use Rattle.field.specs.Kind.{Kind, unsigned64, unsigned8}
 use Rattle.message.specs.Fields.{Field, headed, lists, list_in, fields_of, received}
@@ -187,15 +189,18 @@ module _ (m : Message) (vs : List Val) (g : Typed m vs) (d : List ℕ) (bytes : 
   pub by_fields : r ≡ body_fault m.body d → r ≡ fault_in m d
   by_fields e = e ∙ sym (body_is m.op_id (typed.op_id m vs g) d (λ k. (bytes k).fits) m.body (typed.body m vs g))
 
-  pub by_name : AtOnce m.body r → (r ≡ 255 → ⊥) → r ≡ fault_in m d
-  by_name a n = by_fields (a.told d n)
+  pub by_name : (o : Option ℕ) → AtOnce m.body o → o ≡ Some r → r ≡ fault_in m d
+  by_name o a e = by_fields (a.told d r e)
 
 pub ruleset whole = (by_fields, by_name)
 
 -- in the shape of a need of `at_once`
-pub of_name : (b : Body) (c r : ℕ) → b ≡ Body.Bare c → r ≡ bare_fault c → AtOnce b r
+pub of_name : (b : Body) (c r : ℕ) → b ≡ Body.Bare c → r ≡ bare_fault c → AtOnce b (Some r)
 unfolding body_fault
-of_name b c r e f = record { told = λ d n. rw e f }
+of_name b c r e f = record { told = λ d n g. let z : r ≡ n = same_Some r n g in rw (← z, e) f }
+
+pub of_fields : (b : Body) → AtOnce b None
+of_fields b = record { told = λ d n g. absurd (none-some n g) }
 
 -- each in the shape of a need of `body_fault`
 module _ (b : Body) (d : List ℕ) (r : ℕ) where

@@ -45,9 +45,9 @@ module _ (n : ℕ) (d : List ℕ) where
       unfolding lengths_fit
       length_long h = rw (first, lt-leb (get_or d (64 + i) 0) 245 h) at e
 
-      pub length_passed : get_or d (64 + i) 0 ≤ 245 → lengths_fit (lengths_left d n (i + 1)) (sum + get_or d (64 + i) 0) (length d) ≡ told
+      pub length_passed : (x : ℕ) → x ≡ get_or d (64 + i) 0 → get_or d (64 + i) 0 ≤ 245 → lengths_fit (lengths_left d n (i + 1)) (sum + x) (length d) ≡ told
       unfolding lengths_fit
-      length_passed h = rw (first, le-leb (get_or d (64 + i) 0) 245 h) at e
+      length_passed x p h = rw p (rw (first, le-leb (get_or d (64 + i) 0) 245 h) at e)
 
 pub ruleset lengths = (lengths_none, lengths_all, length_long, length_passed, arith)
 

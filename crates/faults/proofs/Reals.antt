@@ -1,30 +1,17 @@
--- Reals that may be absent, each law in the shape of a need of the code. A real is unlike itself exactly if it is a NaN: `x != x` in the code.
--- A NaN is neither finite nor zero. Assumes nothing.
+-- Reals that may be absent, each law in the shape of a need of the code. A NaN is neither finite nor zero. Assumes nothing.
 use mathlib.Core.Path.{◌≡◌, refl, sym, ◌∙◌}
-use mathlib.Core.Bool.{Bool, true, false, not, ◌&&◌, beq, and-true}
-use Prim.Native.Nat.{◌*◌}
+use mathlib.Core.Bool.{Bool, true, false, not, ◌&&◌, and-true}
 use lib.Dec.{T, eqb, eqb→eq}
-use lib.Ieee.{Float, nan, inf, fin, binary32, binary64, ne, eq, is_nan, to_bits, of_bits, of_fields, odd, fits as holds, up, down}
+use lib.Ieee.{Float, nan, inf, fin, binary32, binary64, is_nan, to_bits, of_bits, of_fields, odd, fits as holds}
 use lib.Ieee.Bits.{of_bits-to_bits}
-use borrow.Author.Tests.{eq-eqb}
 use Rattle.octets.proofs.Ranges.{is_true, true_is, true_false, both_left, both_right}
 use Rattle.number.specs.Number.{finite}
 use Rattle.message.specs.declared.MaybePosition.{MaybePosition}
 use Rattle.saying.specs.{Says.no_bits, Says.no_position, Fits.is_real, Fits.is_position}
 use Rattle.faults.specs.Code.Tests.{is_single, real_fits, position_fits}
 
-beq_self : (b : Bool) → beq b b ≡ true
-beq_self true = refl
-beq_self false = refl
-
-unlike_self : (x : Float) → ne x x ≡ is_nan x
-unfolding ne eq is_nan
-unlike_self nan = refl
-unlike_self (inf s) = rw beq_self
-unlike_self (fin s m e) = rw (eq-eqb (m * up e * down e) (m * up e * down e) refl, beq_self s)
-
-pub no_nan : (x : Float) → ne x x ≡ false → T (not (is_nan x))
-no_nan x e = rw (← unlike_self, e) tt
+pub no_nan : (x : Float) (t : Bool) → t ≡ is_nan x → t ≡ false → T (not (is_nan x))
+no_nan x t e f = rw (← e, f) tt
 
 is_nan_lem : (x : Float) → is_nan x ≡ true → x ≡ nan
 unfolding is_nan
@@ -32,13 +19,13 @@ is_nan_lem nan e = refl
 is_nan_lem (inf s) e = true_false (sym e)
 is_nan_lem (fin s m e) q = true_false (sym q)
 
-pub nan_unreal : (x : Float) → ne x x ≡ true → false ≡ is_real x
+pub nan_unreal : (x : Float) (t : Bool) → t ≡ is_nan x → t ≡ true → false ≡ is_real x
 unfolding to_bits
-nan_unreal x e = rw (is_nan_lem x (sym (unlike_self x) ∙ e)) refl
+nan_unreal x t e f = rw (is_nan_lem x (sym e ∙ f)) refl
 
-pub nan_bits : (x : Float) → ne x x ≡ true → false ≡ no_bits x
+pub nan_bits : (x : Float) (t : Bool) → t ≡ is_nan x → t ≡ true → false ≡ no_bits x
 unfolding to_bits
-nan_bits x e = rw (is_nan_lem x (sym (unlike_self x) ∙ e)) refl
+nan_bits x t e f = rw (is_nan_lem x (sym e ∙ f)) refl
 
 pub held_real : (x : Float) → holds binary64 x ≡ true → finite binary64 (to_bits binary64 x) ≡ is_real x
 held_real x e = rw (e, and-true)
@@ -49,9 +36,9 @@ held_bits x e = rw (e, and-true)
 pub ruleset reals = (no_nan, nan_unreal, nan_bits, held_real, held_bits)
 
 -- single precision, told from the bits
-pub nan_single : (x : Float) → ne x x ≡ true → false ≡ is_single x
+pub nan_single : (x : Float) (t : Bool) → t ≡ is_nan x → t ≡ true → false ≡ is_single x
 unfolding is_single
-nan_single x e = rw (← nan_unreal x e)
+nan_single x t e f = rw (← nan_unreal x t e f)
 
 by_bits : (x : Float) → T (holds binary64 x) → is_single x ≡ (finite binary64 (to_bits binary64 x) && holds binary32 (of_bits binary64 (to_bits binary64 x)))
 unfolding is_single

@@ -81,14 +81,12 @@ fn lengths_fit(n: usize, d: &[u8]) -> bool
     ensures { result ≡ lengths_fit (lengths_lent n d.now) 0 (length d.now) }
 {
     let mut sum: usize = 0;
-    let mut i: usize = 0;
-    while i < n {
+    for i in 0..n {
         let size = d[LENGTHS + i];
         if MOST_PIECE < size {
             return false;
         }
-        sum += size as usize;
-        i += 1;
+        sum += usize::from(size);
     }
     (sum <= MOST_TOGETHER) & (PIECES + sum <= d.len())
 }

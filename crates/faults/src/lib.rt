@@ -24,36 +24,25 @@ const NONE: u8 = 0;
 // The first of the commands that have no fields of their own.
 const FIRST_BARE: u8 = CON_CMP;
 
-// No field's number: what is told waits for the fields.
-const ASK_FIELDS: u8 = 255;
-
 // One more than the place of the command's first field at fault, in document 01's order; 0 where none is.
 pub fn fault(m: record::Message, d: &[u8]) -> u8
     ensures { result ≡ fault_in m d.now }
 {
     let b = m.body;
-    let f = at_once(b);
-    if f != ASK_FIELDS {
-        return f;
+    match at_once(b) {
+        Some(f) => f,
+        None => body_fault(b, d),
     }
-    body_fault(b, d)
 }
 
 // Most commands that are written are bare. They are told of first and apart, so that nothing else of the record is read.
-fn at_once(b: Body) -> u8
+#[tactic(auto, using(crate::proofs::Bodies::of_name, crate::proofs::Bodies::of_fields))]
+fn at_once(b: Body) -> Option<u8>
     ensures { AtOnce b result }
 {
     match b {
-        Body::Con(_) => ASK_FIELDS,
-        Body::ConRsp(_) => ASK_FIELDS,
-        Body::StatusRsp(_) => ASK_FIELDS,
-        Body::Det(_) => ASK_FIELDS,
-        Body::DetRsp(_) => ASK_FIELDS,
-        Body::AttPrp(_) => ASK_FIELDS,
-        Body::DetPrp(_) => ASK_FIELDS,
-        Body::UlData(_) => ASK_FIELDS,
-        Body::DlDataQue(_) => ASK_FIELDS,
-        Body::Bare(c) => bare_fault(c),
+        Body::Bare(c) => Some(bare_fault(c)),
+        _ => None,
     }
 }
 

@@ -27,7 +27,7 @@ const HALF_BITS: u64 = 64;
 pub fn is_real(x: f64) -> bool
     ensures { result ≡ is_real x }
 {
-    if x != x {
+    if x.is_nan() {
         return false;
     }
     f64::to_bits(x) % SIGN / EXPONENT != NOT_FINITE
@@ -37,7 +37,7 @@ pub fn is_real(x: f64) -> bool
 pub fn is_single(x: f64) -> bool
     ensures { result ≡ is_single x }
 {
-    if x != x {
+    if x.is_nan() {
         return false;
     }
     fits_single(f64::to_bits(x))
@@ -47,7 +47,7 @@ pub fn is_single(x: f64) -> bool
 pub fn no_bits(x: f64) -> bool
     ensures { result ≡ no_bits x }
 {
-    if x != x {
+    if x.is_nan() {
         return false;
     }
     f64::to_bits(x) == 0

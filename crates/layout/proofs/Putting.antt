@@ -1,38 +1,30 @@
 -- What is put to where it lies, each law in the shape of a need of the code. Assumes nothing.
-use mathlib.Core.Path.{◌≡◌, refl, sym, ap, ◌∙◌}
-use mathlib.Core.List.{List, [], ◌∷◌, ◌++◌}
-use Prim.Native.Nat.{ℕ, zero, suc, ◌+◌, ◌≤◌, ◌<◌}
-use native.Mathlib.Numerals.{add-one}
-use native.Mathlib.Omega.{arith}
-use lib.{Dec.eqb, Seq.take_all, Seq.take-suc-set}
-use lib.ListN.{length, take, set, replicate}
+use mathlib.Core.Path.{◌≡◌, refl, sym, ◌∙◌}
+use mathlib.Core.Bool.{Bool, true, false}
+use mathlib.Core.List.{List}
+use Prim.Native.Nat.{ℕ}
+use lib.{Dec.eqb}
+use lib.ListN.{length, replicate}
 use lib.IntN.{ℤ}
 use mir.Syntax.{w64}
-use mir.Val.{SFits, to_z, of_z}
+use mir.Val.{SFits, to_z, of_z, bool_byte}
 use mir.ValLaws.{to_z-of_z}
 use borrow.Author.Tests.{eq-eqb, ne_eqb}
-use Rattle.octets.specs.Choice.{either}
+use Rattle.octets.specs.{Choice.either, Bytes.mark_byte}
 use Rattle.names.specs.Names.{downlink}
 use Rattle.record.specs.declared.{Body.Body, DlDataQue.DlDataQue, Message.Message}
 use Rattle.record.specs.Record.{command_in}
 use Rattle.layout.specs.Image.{body_lies, head_lies, laid, clear_image, message_image, dl_data_que_lies}
 
 -- zeros
-one_more : (n x : ℕ) → replicate n x ++ (x ∷ []) ≡ replicate (suc n) x
-one_more zero x = refl
-one_more (suc n) x = ap (λ (t : List ℕ). x ∷ t) (one_more n x)
+pub cleared : (d e : List ℕ) → length d ≡ 104 → e ≡ replicate (length d) 0 → e ≡ clear_image
+unfolding clear_image
+cleared d e l h = rw l at h
 
-module _ (d : List ℕ) (i : ℕ) (e : take i d ≡ replicate i 0) where
-  pub clear_next : i < length d → take (i + 1) (set d i 0) ≡ replicate (i + 1) 0
-  clear_next h = rw (add-one, take-suc-set d i 0 h, e) (one_more i 0)
-
-  pub clear_end : length d ≡ 104 → i ≤ 104 → 104 ≤ i → d ≡ clear_image
-  unfolding clear_image
-  clear_end l h g =
-      let k : i ≡ 104 = omega arith in
-      sym (take_all 104 d (omega arith)) ∙ (rw k at e)
-
-pub ruleset clears = (clear_next, clear_end, arith)
+-- a mark as a number
+pub mark_is : (b : Bool) → bool_byte b ≡ mark_byte b
+mark_is true = refl
+mark_is false = refl
 
 -- a body's fields, by its command
 pub body_put : (b v : Body) → b ≡ v → (a d : List ℕ) → a ≡ laid (body_lies v) d → a ≡ laid (body_lies b) d

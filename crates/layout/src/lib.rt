@@ -56,11 +56,7 @@ fn clear(d: &mut [u8])
     requires { length d.old ≡ message_size }
     ensures { d.new ≡ clear_image }
 {
-    let mut i: usize = 0;
-    while i < SIZE {
-        d[i] = 0;
-        i += 1;
-    }
+    d.fill(0);
 }
 
 // What each command has, and zeros besides.

@@ -3,25 +3,25 @@ ghost use mathlib.Core.{Path.◌≡◌, List.[]};
 ghost use Rattle.std.specs.Prelude.{◌+◌, ◌≤◌, take};
 ghost use Rattle.layout.specs.Image.{Stretch, sixteen_lies, version_lies, con_lies, con_rsp_lies, status_rsp_lies, packet_lies, det_lies, att_prp_lies, ul_data_lies, maybe_lies, dl_data_que_lies, lay, laid};
 
-use crate::leaf;
 use record::{Con, StatusRsp};
 
+// A function for each width, so that the lines below name none: `put::<1>(d, 40, u64::from(x.entries))` would be no plainer than `put_small(d, 40, x.entries)`.
 pub fn put_small(d: &mut [u8], at: usize, x: u8)
     ensures { d.new ≡ lay (Stretch.number 1 at x) d.old }
 {
-    octets::put_little(d, at, 1, leaf::wide8(x));
+    octets::put_little(d, at, 1, u64::from(x));
 }
 
 fn put_short(d: &mut [u8], at: usize, x: u16)
     ensures { d.new ≡ lay (Stretch.number 2 at x) d.old }
 {
-    octets::put_little(d, at, 2, leaf::wide16(x));
+    octets::put_little(d, at, 2, u64::from(x));
 }
 
 fn put_count(d: &mut [u8], at: usize, x: u32)
     ensures { d.new ≡ lay (Stretch.number 4 at x) d.old }
 {
-    octets::put_little(d, at, 4, leaf::wide32(x));
+    octets::put_little(d, at, 4, u64::from(x));
 }
 
 pub fn put_word(d: &mut [u8], at: usize, x: u64)
@@ -33,7 +33,7 @@ pub fn put_word(d: &mut [u8], at: usize, x: u64)
 pub fn put_four(d: &mut [u8], at: usize, x: u32)
     ensures { d.new ≡ lay (Stretch.high 4 at x) d.old }
 {
-    octets::put_big(d, at, 4, leaf::wide32(x));
+    octets::put_big(d, at, 4, u64::from(x));
 }
 
 pub fn put_id(d: &mut [u8], at: usize, z: i64)
@@ -57,7 +57,7 @@ fn put_real(d: &mut [u8], at: usize, x: f64)
 fn put_mark(d: &mut [u8], at: usize, x: bool)
     ensures { d.new ≡ lay (Stretch.flag at x) d.old }
 {
-    octets::put_little(d, at, 1, leaf::mark_bits(x));
+    octets::put_little(d, at, 1, u64::from(x));
 }
 
 fn put_sixteen(d: &mut [u8], at: usize, x: record::Sixteen)

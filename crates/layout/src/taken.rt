@@ -8,6 +8,7 @@ use message::{MaybeId, MaybeMark, MaybePosition, MaybeReal, MaybeVersion, MaybeW
 use names::numbers;
 use record::{AttPrp, Con, ConRsp, Det, DlDataQue, Packet, Sixteen, StatusRsp, UlData};
 
+// A function for each width, as where they are put: each narrows by its type, which one function for all would leave to its callers.
 fn byte(d: &[u8], at: usize) -> u8
     ensures { result ≡ number_at d.now 1 at }
 {
@@ -258,10 +259,8 @@ fn are_marks(d: &[u8], at: usize, n: usize) -> bool
     ensures { result ≡ are_marks d.now (places at n) }
 {
     let mut ok = true;
-    let mut i: usize = 0;
-    while i < n {
+    for i in 0..n {
         ok = ok & (byte(d, at + i) < 2);
-        i += 1;
     }
     ok
 }
@@ -284,7 +283,7 @@ fn is_marked(d: &[u8], c: u8) -> bool
     }
 }
 
-// What each command has, and whether its marks are 0 or 1.
+// What each command has, and whether its marks are 0 or 1. Where they are not, ID and command stand all the same, so no `Option` holds them.
 #[derive(Clone, Copy)]
 pub struct Head {
     pub op_id: i64,

@@ -1,6 +1,7 @@
 -- An entry that is put at a place, and what add answers by the code's tests: 15, 27, 28, and the lowest free place. Each law in the shape of a need of the code.
 -- Assumes nothing.
-use mathlib.Core.{Path.◌≡◌, Path.refl, Path.sym, Path.ap, Path.ap₂, Path.◌∙◌, Option.Option, Option.some, Option.none}
+use mathlib.Core.{Path.◌≡◌, Path.refl, Path.sym, Path.ap, Path.◌∙◌}
+use Rattle.std.specs.Prelude.{Option, Some, None, is_some, Result, Ok, Err}
 use mathlib.Core.{Bool.Bool, Bool.true, Bool.false, List.List, List.[], List.◌∷◌, List.◌++◌}
 use Prim.Native.Nat.{ℕ, ◌+◌, ◌-◌, ◌*◌, ◌≤◌, ◌<◌}
 use native.Mathlib.Omega.{arith}
@@ -15,15 +16,16 @@ use Rattle.octets.specs.{Choice.either, Bytes.put_at, Pieces.sum_of}
 use Rattle.octets.proofs.Ranges.{true_false}
 use Rattle.octets.proofs.Writing.{put_in, length_put}
 use Rattle.forms.specs.Code.Put.{Put, put, put_part, put_parts}
-use Rattle.record.specs.declared.{Con.Con, ConRsp.ConRsp, StatusRsp.StatusRsp, Det.Det, AttPrp.AttPrp, UlData.UlData, DlDataQue.DlDataQue, Body.Body, Message.Message}
+use Rattle.record.specs.declared.{DlDataQue.DlDataQue, Body.Body, Message.Message}
 use Rattle.record.specs.Fits.{fault_in, fits}
 use Rattle.layout.specs.Image.{message_image}
 use Rattle.layout.proofs.Back.{image_size}
-use Rattle.queue.specs.declared.Answer.{Answer}
+use Rattle.refusal.specs.declared.Refusal.{Refusal}
+use Rattle.refusal.specs.declared.Refusal.TheVariants.{Invalid, QueueIdThere, QueueFull}
 use Rattle.queue.specs.Queue.{is_free, on_place, place_of_id, free_place}
 use Rattle.queue.specs.Store.{queue_at}
-use Rattle.queue.specs.Calls.{Queued, queued, refused_by, refuses, placed_at, adds_at, downlink_in, adds}
-use Rattle.queue.specs.Code.Slots.{place_from, is_found, adds_fit}
+use Rattle.queue.specs.Calls.{Queued, queued, refuses, adds_at, downlink_in, adds}
+use Rattle.queue.specs.Code.Slots.{adds_fit}
 use Rattle.queue.proofs.{Fitting.entries_few, Fitting.entries_lent, Calling.is_store, Calling.no_place, Calling.one_place, Calling.no_store, Calling.first_in}
 
 -- a run that is put is put where it has room
@@ -69,9 +71,8 @@ pub ruleset entries = (head_long, entry_put, entry_long, lent_few, arith)
 
 -- a record of dlDataQue, by the tests in their order
 module _ (q : List ℕ) (long : length q ≡ 31488) (m : Message) (x : DlDataQue) (d : List ℕ) (f : ℕ) (e : f ≡ fault_in m d) where
-  module _ (a : Answer) where
-    pub unfit : (f ≡ 0 → ⊥) → a ≡ refused_by 15 → queued a q ≡ adds_fit q m x d
-    unfit n p = rw (← e, ne_eqb f 0 n, p)
+  pub unfit : (f ≡ 0 → ⊥) → ◌≡◌ {A = Queued ℕ} (queued (Err Invalid) q) (adds_fit q m x d)
+  unfit n = rw (← e, ne_eqb f 0 n)
 
   module _ (fit : f ≡ 0) where
     is_fit : adds_fit q m x d ≡ adds_at q m x d
@@ -85,34 +86,39 @@ module _ (q : List ℕ) (long : length q ≡ 31488) (m : Message) (x : DlDataQue
       pub lengths_lent : 64 + x.entries ≤ length d
       lengths_lent = omega (arith, entries_few m.op_id x d fits_it, entries_lent m.op_id x d fits_it)
 
-      pub data_lent : (l : ℕ) → l ≡ sum_of (take x.entries (drop 64 d)) → 80 + l ≤ length d
-      data_lent l p = omega (arith, entries_lent m.op_id x d fits_it)
+      pub data_lent : (n l : ℕ) → n ≡ x.entries → l ≡ sum_of (take n (drop 64 d)) → 80 + l ≤ length d
+      data_lent n l z p =
+          let q : l ≡ sum_of (take x.entries (drop 64 d)) = rw z at p in
+          omega (arith, entries_lent m.op_id x d fits_it)
 
-    module _ (t : Bool) (g : t ≡ is_found (place_of_id x.que_id (queue_at q))) where
-      by_found : (o : Option ℕ) (y z : Queued) → is_found o ≡ true → on_place o (λ _. y) z ≡ y
-      by_found none y z h = true_false (sym h)
-      by_found (some i) y z h = refl
+    module _ (t : Bool) (p : Option ℕ) (u : t ≡ is_some p) (g : p ≡ place_of_id x.que_id (queue_at q)) where
+      by_found : (o : Option ℕ) (y z : Queued ℕ) → is_some o ≡ true → on_place o (λ _. y) z ≡ y
+      by_found None y z h = true_false (sym h)
+      by_found (Some i) y z h = refl
 
-      by_lost : (o : Option ℕ) (y z : Queued) → is_found o ≡ false → on_place o (λ _. y) z ≡ z
-      by_lost none y z h = refl
-      by_lost (some i) y z h = true_false h
+      by_lost : (o : Option ℕ) (y z : Queued ℕ) → is_some o ≡ false → on_place o (λ _. y) z ≡ z
+      by_lost None y z h = refl
+      by_lost (Some i) y z h = true_false h
 
-      pub there : (a : Answer) → t ≡ true → a ≡ refused_by 27 → queued a q ≡ adds_fit q m x d
-      there a h p = ap (λ (y : Answer). queued y q) p ∙ sym (is_fit ∙ by_found (place_of_id x.que_id (queue_at q)) (refuses 27 q) _ (sym g ∙ h))
+      known : t ≡ is_some (place_of_id x.que_id (queue_at q))
+      known = u ∙ ap is_some g
 
-      module _ (h : t ≡ false) (i : ℕ) (k : i ≡ place_from 0 (free_place (queue_at q))) (a : Answer) where
-        lost : (z : Queued) → on_place (place_of_id x.que_id (queue_at q)) (λ _. refuses 27 q) z ≡ z
-        lost z = by_lost (place_of_id x.que_id (queue_at q)) (refuses 27 q) z (sym g ∙ h)
+      pub there : t ≡ true → ◌≡◌ {A = Queued ℕ} (queued (Err QueueIdThere) q) (adds_fit q m x d)
+      there h = sym (is_fit ∙ by_found (place_of_id x.que_id (queue_at q)) (refuses QueueIdThere q) _ (sym known ∙ h))
 
-        pub no_room : i ≡ 32 → a ≡ refused_by 28 → queued a q ≡ adds_fit q m x d
-        no_room n p = ap (λ (y : Answer). queued y q) p ∙ sym (is_fit ∙ lost _ ∙ no_place q long is_free i k _ _ n)
+      module _ (h : t ≡ false) (o : Option ℕ) (k : o ≡ free_place (queue_at q)) where
+        lost : (z : Queued ℕ) → on_place (place_of_id x.que_id (queue_at q)) (λ _. refuses QueueIdThere q) z ≡ z
+        lost z = by_lost (place_of_id x.que_id (queue_at q)) (refuses QueueIdThere q) z (sym known ∙ h)
 
-        pub stored : (i ≡ 32 → ⊥) → SFits w64 m.op_id → m.body ≡ Body.DlDataQue x → (l : ℕ) (o : List ℕ) → l ≡ sum_of (take x.entries (drop 64 d))
-            → o ≡ put_at (put_at q (984 * i) (message_image (record { op_id = to_z w64 (of_z w64 m.op_id); body = Body.DlDataQue x }))) (984 * i + 104) (take (80 + l) d)
-            → a ≡ placed_at i → queued a o ≡ adds_fit q m x d
-        stored n f b l o r s p =
-            ap₂ queued p (rw (to_z-of_z w64 m.op_id f, ← b) at s ∙ ap (λ (z : ℕ). put_at (put_at q (984 * i) (message_image m)) (984 * i + 104) (take (80 + z) d)) r)
-            ∙ sym (is_fit ∙ lost _ ∙ one_place q long is_free i k _ _ n)
+        pub no_room : o ≡ None → ◌≡◌ {A = Queued ℕ} (queued (Err QueueFull) q) (adds_fit q m x d)
+        no_room n = sym (is_fit ∙ lost _ ∙ no_place q long is_free o k _ _ n)
+
+        pub stored : (i : ℕ) → o ≡ Some i → SFits w64 m.op_id → m.body ≡ Body.DlDataQue x → (l : ℕ) (r : List ℕ) → l ≡ sum_of (take x.entries (drop 64 d))
+            → r ≡ put_at (put_at q (984 * i) (message_image (record { op_id = to_z w64 (of_z w64 m.op_id); body = Body.DlDataQue x }))) (984 * i + 104) (take (80 + l) d)
+            → ◌≡◌ {A = Queued ℕ} (queued (Ok i) r) (adds_fit q m x d)
+        stored i n f b l r v s =
+            ap (λ (y : List ℕ). queued (Ok i) y) (rw (to_z-of_z w64 m.op_id f, ← b) at s ∙ ap (λ (z : ℕ). put_at (put_at q (984 * i) (message_image m)) (984 * i + 104) (take (80 + z) d)) v)
+            ∙ sym (is_fit ∙ lost _ ∙ one_place q long is_free o k _ _ i n)
 
 -- what is put keeps the length
 pub stored_long : (q e : List ℕ) (i : ℕ) (m : Message) (l : List ℕ) → e ≡ put_at (put_at q (984 * i) (message_image m)) (984 * i + 104) l → length e ≡ length q
@@ -122,47 +128,35 @@ pub ruleset downlinks = (eqb-true, eqb-false, unfit, lengths_lent, data_lent, th
 
 -- by the command
 module _ (q : List ℕ) (m : Message) (d : List ℕ) where
-  pub no_adding : (a : Answer) → a ≡ refused_by 15 → (length q ≡ 31488 → ⊥) → queued a q ≡ adds q m d
+  pub no_adding : (length q ≡ 31488 → ⊥) → ◌≡◌ {A = Queued ℕ} (queued (Err Invalid) q) (adds q m d)
   unfolding adds
-  no_adding a e n = no_store q a e n _
+  no_adding n = no_store q n _
 
   module _ (long : length q ≡ 31488) where
-    pub downlink : (x : DlDataQue) → m.body ≡ Body.DlDataQue x → (a : Answer) (o : List ℕ) → ◌≡◌ {A = Queued} (queued a o) (adds_fit q m x d) → queued a o ≡ adds q m d
+    pub downlink : (x : DlDataQue) → m.body ≡ Body.DlDataQue x → (a : Result ℕ Refusal) (o : List ℕ) → ◌≡◌ {A = Queued ℕ} (queued a o) (adds_fit q m x d)
+        → ◌≡◌ {A = Queued ℕ} (queued a o) (adds q m d)
     unfolding adds
-    downlink x e a o p = p ∙ sym (is_store q long _ ∙ ap (λ (b : Body). on_place (downlink_in b) (λ y. adds_fit q m y d) (refuses 15 q)) e)
+    downlink x e a o p = p ∙ sym (is_store q long _ ∙ ap (λ (b : Body). on_place (downlink_in b) (λ y. adds_fit q m y d) (refuses Invalid q)) e)
 
-    other : (b : Body) → m.body ≡ b → downlink_in b ≡ none → (a : Answer) → a ≡ refused_by 15 → queued a q ≡ adds q m d
+    pub other : (b : Body) → m.body ≡ b → downlink_in b ≡ None → ◌≡◌ {A = Queued ℕ} (queued (Err Invalid) q) (adds q m d)
     unfolding adds
-    other b e n a p =
-        ap (λ (y : Answer). queued y q) p
-        ∙ sym (is_store q long _ ∙ ap (λ (v : Body). on_place (downlink_in v) (λ y. adds_fit q m y d) (refuses 15 q)) e ∙ ap (λ (o : Option DlDataQue). on_place o (λ y. adds_fit q m y d) (refuses 15 q)) n)
+    other b e n =
+        sym (is_store q long _ ∙ ap (λ (v : Body). on_place (downlink_in v) (λ y. adds_fit q m y d) (refuses Invalid q)) e ∙ ap (λ (o : Option DlDataQue). on_place o (λ y. adds_fit q m y d) (refuses Invalid q)) n)
 
-    module _ (a : Answer) (p : a ≡ refused_by 15) where
-      pub no_con : (x : Con) → m.body ≡ Body.Con x → queued a q ≡ adds q m d
-      no_con x e = other (Body.Con x) e refl a p
+    -- no command but one
+    pub another : (b : Body) → m.body ≡ b → ((x : DlDataQue) → b ≡ Body.DlDataQue x → ⊥) → ◌≡◌ {A = Queued ℕ} (queued (Err Invalid) q) (adds q m d)
+    another b e n = other b e (go b n)
+      where
+        go : (b : Body) → ((x : DlDataQue) → b ≡ Body.DlDataQue x → ⊥) → downlink_in b ≡ None
+        go (Body.Con x) n = refl
+        go (Body.ConRsp x) n = refl
+        go (Body.StatusRsp x) n = refl
+        go (Body.Det x) n = refl
+        go (Body.DetRsp x) n = refl
+        go (Body.AttPrp x) n = refl
+        go (Body.DetPrp x) n = refl
+        go (Body.UlData x) n = refl
+        go (Body.DlDataQue x) n = absurd (n x refl)
+        go (Body.Bare x) n = refl
 
-      pub no_con_rsp : (x : ConRsp) → m.body ≡ Body.ConRsp x → queued a q ≡ adds q m d
-      no_con_rsp x e = other (Body.ConRsp x) e refl a p
-
-      pub no_status_rsp : (x : StatusRsp) → m.body ≡ Body.StatusRsp x → queued a q ≡ adds q m d
-      no_status_rsp x e = other (Body.StatusRsp x) e refl a p
-
-      pub no_det : (x : Det) → m.body ≡ Body.Det x → queued a q ≡ adds q m d
-      no_det x e = other (Body.Det x) e refl a p
-
-      pub no_det_rsp : (x : ℕ) → m.body ≡ Body.DetRsp x → queued a q ≡ adds q m d
-      no_det_rsp x e = other (Body.DetRsp x) e refl a p
-
-      pub no_att_prp : (x : AttPrp) → m.body ≡ Body.AttPrp x → queued a q ≡ adds q m d
-      no_att_prp x e = other (Body.AttPrp x) e refl a p
-
-      pub no_det_prp : (x : ℕ) → m.body ≡ Body.DetPrp x → queued a q ≡ adds q m d
-      no_det_prp x e = other (Body.DetPrp x) e refl a p
-
-      pub no_ul_data : (x : UlData) → m.body ≡ Body.UlData x → queued a q ≡ adds q m d
-      no_ul_data x e = other (Body.UlData x) e refl a p
-
-      pub no_bare : (x : ℕ) → m.body ≡ Body.Bare x → queued a q ≡ adds q m d
-      no_bare x e = other (Body.Bare x) e refl a p
-
-pub ruleset commands = (no_adding, downlink, no_con, no_con_rsp, no_status_rsp, no_det, no_det_rsp, no_att_prp, no_det_prp, no_ul_data, no_bare)
+pub ruleset commands = (no_adding, downlink, another)

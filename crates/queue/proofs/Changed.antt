@@ -1,6 +1,7 @@
 -- A store of which one place has changed: the queue in it has that place's entry anew and is as it was besides, and it is whole where that place is.
 -- What is put within a place changes no other. Assumes nothing.
-use mathlib.Core.{Path.◌≡◌, Path.refl, Path.sym, Path.ap, Path.◌∙◌, Option.none}
+use mathlib.Core.{Path.◌≡◌, Path.refl, Path.sym, Path.ap, Path.◌∙◌}
+use Rattle.std.specs.Prelude.{None}
 use mathlib.Core.{Bool.Bool, Bool.true, Bool.false, List.List}
 use Prim.Native.Nat.{ℕ, zero, suc, ◌+◌, ◌*◌, ◌≤◌, ◌<◌}
 use native.Mathlib.Nat.{zero-add, add-zero}
@@ -64,14 +65,14 @@ are_whole_lem q i (suc n) f = rw (rw add-zero at (f 0 (omega arith)), are_whole_
 module _ (q r : List ℕ) (i : ℕ) (c : Changed q r i) where
   pub queue_changed : queue_at r ≡ set (queue_at q) i (entry_in (slot_at r i))
   queue_changed =
-      ext_get_or none (queue_at r) (set (queue_at q) i (entry_in (slot_at r i))) (places_many r 0 32 ∙ sym (length-set (queue_at q) i (entry_in (slot_at r i)) ∙ places_many q 0 32))
+      ext_get_or None (queue_at r) (set (queue_at q) i (entry_in (slot_at r i))) (places_many r 0 32 ∙ sym (length-set (queue_at q) i (entry_in (slot_at r i)) ∙ places_many q 0 32))
       (λ j h. let l : j < 32 = omega (arith, places_many r 0 32) in place_at r 0 32 j l ∙ rw zero-add (go j l (eqb j i) refl))
     where
-      go : (j : ℕ) → j < 32 → (b : Bool) → eqb j i ≡ b → entry_in (slot_at r j) ≡ get_or (set (queue_at q) i (entry_in (slot_at r i))) j none
-      go j l true e = let s = eqb-true j i e in rw s (sym (get_or-set_same (queue_at q) i (entry_in (slot_at r i)) none (omega (arith, c.place, places_many q 0 32))))
+      go : (j : ℕ) → j < 32 → (b : Bool) → eqb j i ≡ b → entry_in (slot_at r j) ≡ get_or (set (queue_at q) i (entry_in (slot_at r i))) j None
+      go j l true e = let s = eqb-true j i e in rw s (sym (get_or-set_same (queue_at q) i (entry_in (slot_at r i)) None (omega (arith, c.place, places_many q 0 32))))
       go j l false e =
           let n = eqb-false j i e in
-          ap entry_in (c.kept j l n) ∙ sym (get_or-set_other (queue_at q) i j (entry_in (slot_at r i)) none n ∙ place_at q 0 32 j l ∙ rw zero-add)
+          ap entry_in (c.kept j l n) ∙ sym (get_or-set_other (queue_at q) i j (entry_in (slot_at r i)) None n ∙ place_at q 0 32 j l ∙ rw zero-add)
 
   pub wholes_changed : are_whole q 0 32 ≡ true → is_whole (slot_at r i) ≡ true → are_whole r 0 32 ≡ true
   wholes_changed w h = are_whole_lem r 0 32 (λ j l. rw zero-add (go j l (eqb j i) refl))

@@ -1,5 +1,6 @@
 -- A store of zeros is sound, and its queue is empty: no place has a command. Assumes nothing.
-use mathlib.Core.{Path.◌≡◌, Path.refl, Path.◌∙◌, Option.none}
+use mathlib.Core.{Path.◌≡◌, Path.refl, Path.◌∙◌}
+use Rattle.std.specs.Prelude.{None}
 use mathlib.Core.{Bool.Bool, Bool.true, Bool.false, List.List}
 use Prim.Native.Nat.{ℕ, zero, suc, ◌+◌, ◌*◌}
 use native.Mathlib.Omega.{arith}
@@ -30,12 +31,12 @@ module _ (n : ℕ) where
   not_used : (i : ℕ) → is_used (slot_at zeros i) ≡ false
   not_used i = rw (no_command i)
 
-  no_places : (i m : ℕ) → places_from zeros i m ≡ replicate m none
+  no_places : (i m : ℕ) → places_from zeros i m ≡ replicate m None
   unfolding places_from
   no_places i zero = refl
   no_places i (suc m) = rw (not_used i, no_places (suc i) m)
 
-pub zeros_empty : queue_at (replicate 31488 0) ≡ replicate 32 none
+pub zeros_empty : queue_at (replicate 31488 0) ≡ replicate 32 None
 zeros_empty = no_places 31488 0 32
 
 pub zeros_sound : is_sound (replicate 31488 0) ≡ true
@@ -43,5 +44,5 @@ unfolding is_whole
 zeros_sound = sound (replicate 31488 0) (record {
   long = length-replicate {A = ℕ} 31488 0;
   whole = are_whole_lem (replicate 31488 0) 0 32 (λ j h. rw (not_used 31488 (0 + j)));
-  unlike = rw zeros_empty (once_unlike (replicate 32 none) (λ id. omega (arith, count_empty id 32)));
+  unlike = rw zeros_empty (once_unlike (replicate 32 None) (λ id. omega (arith, count_empty id 32)));
 })

@@ -1,7 +1,8 @@
 -- Whether a store is sound, by the code's tests: each place by its record, the IDs in walks over all places. Each law in the shape of a need of the code.
 -- Assumes nothing.
-use mathlib.Core.{Path.◌≡◌, Path.refl, Path.sym, Path.ap, Path.ap₂, Path.◌∙◌, Option.Option, Option.some, Option.none}
-use mathlib.Core.Bool.{Bool, true, false, not, ◌&&◌}
+use mathlib.Core.{Path.◌≡◌, Path.refl, Path.sym, Path.ap, Path.◌∙◌}
+use Rattle.std.specs.Prelude.{Option, Some, None}
+use mathlib.Core.Bool.{Bool, true, false, not, ◌&&◌, and-false}
 use mathlib.Core.List.{List}
 use Prim.Native.Nat.{ℕ, suc, ◌+◌, ◌-◌, ◌≤◌, ◌<◌}
 use native.Mathlib.Omega.{arith}
@@ -16,7 +17,7 @@ use Rattle.queue.specs.Entry.{Entry}
 use Rattle.queue.specs.Queue.{Queue, has_id, is_free, is_other, is_unlike, are_unlike}
 use Rattle.queue.specs.Store.{slot_at, is_used, entry_in, queue_at, is_whole, are_whole, is_sound}
 use Rattle.queue.specs.Code.Slots.{entry_at, left}
-use Rattle.queue.proofs.{Unique.free_unlike, Walks.lent_slot, Walks.slot_is, Walks.left_next, Walks.left_none}
+use Rattle.queue.proofs.{Unique.free_unlike, Walks.lent_slot, Walks.slot_is, Walks.left_at, Walks.left_none}
 
 -- a place
 module _ (s : List ℕ) (u : Bool) (e : u ≡ is_used s) where
@@ -45,58 +46,80 @@ module _ (q : List ℕ) (i : ℕ) where
   unlike_free b e h l = go x (sym e ∙ h)
     where
       go : (y : Option Entry) → is_free y ≡ true → true ≡ is_unlike y l
-      go none p = sym (free_unlike l)
-      go (some a) p = true_false (sym p)
+      go None p = sym (free_unlike l)
+      go (Some a) p = true_false (sym p)
 
   pub unlike_none : true ≡ is_unlike x (left q 32)
   unfolding is_unlike
   unlike_none = rw (left_none q)
 
-  module _ (j : ℕ) (unlike : Bool) (e : unlike ≡ is_unlike x (left q j)) where
+  module _ (j : ℕ) (told : Bool) (e : told ≡ is_unlike x (left q j)) where
     other_is : (k : ℕ) → k ≡ number_at (slot_at q i) 8 24 → is_free x ≡ false → (y : Option Entry) → not (has_id k y) ≡ is_other x y
     unfolding dl_data_que_at
     other_is k p f y = rw p (go (is_used (slot_at q i)) f)
       where
-        go : (b : Bool) → is_free (either b (λ _. some (entry_at (slot_at q i))) (λ _. none)) ≡ false → not (has_id (number_at (slot_at q i) 8 24) y) ≡ is_other (either b (λ _. some (entry_at (slot_at q i))) (λ _. none)) y
+        go : (b : Bool) → is_free (either b (λ _. Some (entry_at (slot_at q i))) (λ _. None)) ≡ false → not (has_id (number_at (slot_at q i) 8 24) y) ≡ is_other (either b (λ _. Some (entry_at (slot_at q i))) (λ _. None)) y
         go true f = refl
         go false f = true_false f
 
-    pub unlike_turn : i + 1 < j → j ≤ 32 → (g : Bool) → g ≡ is_free x → g ≡ false → (k : ℕ) → k ≡ number_at (slot_at q i) 8 24 → (b : Bool) → b ≡ has_id k (entry_in (slot_at q (j - 1)))
-        → not b && unlike ≡ is_unlike x (left q (j - 1))
-    unfolding is_unlike
-    unlike_turn h l g p f k r b s = rw (left_next q j (omega arith) l, s, e, other_is k r (sym p ∙ f) (entry_in (slot_at q (j - 1))))
+    module _ (l : j < 32) (g : Bool) (p : g ≡ is_free x) (f : g ≡ false) (k : ℕ) (r : k ≡ number_at (slot_at q i) 8 24) (b : Bool) (s : b ≡ has_id k (entry_in (slot_at q j))) where
+      here : told ≡ (not b && is_unlike x (left q (j + 1)))
+      unfolding is_unlike
+      here = e ∙ rw (left_at q j l, s, other_is k r (sym p ∙ f) (entry_in (slot_at q j)))
 
-    pub unlike_done : i + 1 ≤ j → j ≤ i + 1 → unlike ≡ is_unlike x (left q (i + 1))
-    unlike_done h l = let z : j ≡ i + 1 = omega arith in rw z at e
+      pub unlike_turn : b ≡ false → told ≡ is_unlike x (left q (j + 1))
+      unlike_turn n = here ∙ rw n
 
-pub ruleset unlikes = (unlike_free, unlike_none, unlike_turn, unlike_done, arith)
+      pub unlike_same : b ≡ true → false ≡ told
+      unlike_same n = sym (here ∙ rw n)
+
+    pub unlike_done : 32 ≤ j → j ≤ 32 → true ≡ told
+    unlike_done h l = let z : j ≡ 32 = omega arith in unlike_none ∙ sym (rw z at e)
+
+pub ruleset unlikes = (unlike_free, unlike_turn, unlike_same, unlike_done, arith)
 
 -- all places
 module _ (q : List ℕ) where
-  pub all_none : true ≡ are_unlike (left q 32)
-  unfolding are_unlike
-  all_none = rw (left_none q)
+  abbrev told_whole : Bool
+  told_whole = are_whole q 0 32
 
-  pub wholes_none : true ≡ are_whole q 32 (32 - 32)
-  unfolding are_whole
-  wholes_none = refl
+  abbrev told_unlike : Bool
+  told_unlike = are_unlike (queue_at q)
 
-  module _ (i : ℕ) (h : 0 < i) (l : i ≤ 32) (b : Bool) where
-    pub all_turn : (unlike : Bool) → unlike ≡ are_unlike (left q i) → b ≡ is_unlike (entry_in (slot_at q (i - 1))) (left q (i - 1 + 1)) → b && unlike ≡ are_unlike (left q (i - 1))
-    unfolding are_unlike
-    all_turn unlike e p = let z : i - 1 + 1 ≡ i = omega arith in rw (left_next q i h l, e, p, z)
+  module _ (i : ℕ) (e : told_whole ≡ are_whole q i (32 - i)) (f : told_unlike ≡ are_unlike (left q i)) where
+    module _ (l : i < 32) (b : Bool) where
+      module _ (p : b ≡ is_whole (slot_at q i)) where
+        whole_here : told_whole ≡ (b && are_whole q (i + 1) (32 - (i + 1)))
+        unfolding are_whole
+        whole_here =
+            let n : 32 - i ≡ suc (32 - (i + 1)) = omega arith in
+            let s : suc i ≡ i + 1 = omega arith in
+            e ∙ rw (n, s, p)
 
-    pub wholes_turn : (whole : Bool) → whole ≡ are_whole q i (32 - i) → b ≡ is_whole (slot_at q (i - 1)) → b && whole ≡ are_whole q (i - 1) (32 - (i - 1))
-    unfolding are_whole
-    wholes_turn whole e p =
-        let n : 32 - (i - 1) ≡ suc (32 - i) = omega arith in
-        let s : suc (i - 1) ≡ i = omega arith in
-        rw (n, s, e, p)
+        pub whole_turn : not b ≡ false → told_whole ≡ are_whole q (i + 1) (32 - (i + 1))
+        whole_turn n = whole_here ∙ rw (not-false b n)
 
-  pub all_done : (i : ℕ) (whole unlike : Bool) → i ≤ 0 → whole ≡ are_whole q i (32 - i) → unlike ≡ are_unlike (left q i) → whole && unlike ≡ (are_whole q 0 32 && are_unlike (queue_at q))
-  all_done i whole unlike h e f =
-      let z : i ≡ 0 = omega arith in
-      ap₂ ◌&&◌ (rw z at e) (rw z at f)
+        pub whole_broken : not b ≡ true → false ≡ (told_whole && told_unlike)
+        whole_broken n = let z : told_whole ≡ false = whole_here ∙ rw (not-true b n) in rw z
+
+      module _ (p : b ≡ is_unlike (entry_in (slot_at q i)) (left q (i + 1))) where
+        all_here : told_unlike ≡ (b && are_unlike (left q (i + 1)))
+        unfolding are_unlike
+        all_here = f ∙ rw (left_at q i l, p)
+
+        pub all_turn : not b ≡ false → told_unlike ≡ are_unlike (left q (i + 1))
+        all_turn n = all_here ∙ rw (not-false b n)
+
+        pub all_broken : not b ≡ true → false ≡ (told_whole && told_unlike)
+        all_broken n = let z : told_unlike ≡ false = all_here ∙ rw (not-true b n) in rw (z, and-false)
+
+    pub all_done : 32 ≤ i → i ≤ 32 → true ≡ (told_whole && told_unlike)
+    unfolding are_unlike are_whole
+    all_done h l =
+        let z : i ≡ 32 = omega arith in
+        let w : told_whole ≡ true = rw z at e in
+        let u : told_unlike ≡ true = rw z at f ∙ ap are_unlike (left_none q) in
+        rw (w, u)
 
   pub no_store_sound : (length q ≡ 31488 → ⊥) → false ≡ is_sound q
   no_store_sound n = rw (ne_eqb (length q) 31488 n)
@@ -104,4 +127,4 @@ module _ (q : List ℕ) where
   pub store_sound : length q ≡ 31488 → (r : Bool) → r ≡ (are_whole q 0 32 && are_unlike (queue_at q)) → r ≡ is_sound q
   store_sound l r e = rw (eq-eqb (length q) 31488 l) e
 
-pub ruleset sounds = (all_none, wholes_none, all_turn, wholes_turn, all_done, no_store_sound, store_sound, arith)
+pub ruleset sounds = (whole_turn, whole_broken, all_turn, all_broken, all_done, no_store_sound, store_sound, arith)

@@ -1,12 +1,13 @@
 -- A sound store stays sound through every call: a place that is freed has nothing to judge, one that is taken has a record
 -- that may be written, and IDs stay unique as in the queue. Assumes nothing.
-use mathlib.Core.{Path.◌≡◌, Path.sym, Path.ap, Path.subst, Option.some, Option.none}
+use mathlib.Core.{Path.◌≡◌, Path.sym, Path.ap, Path.subst}
+use Rattle.std.specs.Prelude.{Some, None}
 use mathlib.Core.{Bool.Bool, Bool.true, Bool.◌&&◌, List.List}
 use Prim.Native.Nat.{ℕ, ◌<◌}
 use native.Mathlib.Omega.{arith}
 use lib.{IntN.ℤ, Dec.eqb, ListN.length}
 use borrow.Author.Tests.{eqb-true, eq-eqb}
-use Rattle.octets.proofs.Truth.{none_some, some_is, both}
+use Rattle.octets.proofs.Truth.{both}
 use Rattle.record.specs.declared.{DlDataQue.DlDataQue, Body.Body, Message.Message}
 use Rattle.record.specs.Fits.{fits}
 use Rattle.queue.specs.Entry.{Entry, is_suitable}
@@ -17,6 +18,7 @@ use Rattle.queue.specs.Run.{Call, step}
 use Rattle.queue.proofs.{Cases.by_place, Cases.by_test, Counted.count_set, Unique.unlike_once, Unique.once_unlike, Unique.unique_kept}
 use Rattle.queue.proofs.{Changed.wholes_changed, Freeing.freed_changed, Freeing.freed_whole, Freeing.queue_freed, Storing.stored_changed, Storing.stored_whole, Storing.queue_stored}
 use Rattle.queue.proofs.{Reached.places_many, Reached.place_inside, Reached.found_inside}
+use Rattle.queue.proofs.Cases.{none_some, some_is}
 
 pub record Parts (q : List ℕ) : Type 0 where
   pub long : length q ≡ 31488
@@ -34,14 +36,14 @@ sound q p = rw (eq-eqb (length q) 31488 p.long, p.whole, p.unlike)
 
 -- IDs stay unique
 freed_unlike : (q : Queue) (i : ℕ) → are_unlike q ≡ true → i < length q → are_unlike (freed q i) ≡ true
-freed_unlike q i u h = once_unlike (freed q i) (λ id. omega (arith, count_set id q i none h, unlike_once q u id))
+freed_unlike q i u h = once_unlike (freed q i) (λ id. omega (arith, count_set id q i None h, unlike_once q u id))
 
-entered_unlike : (q : Queue) (i : ℕ) (e : Entry) → are_unlike q ≡ true → place_of_id e.asks.que_id q ≡ none → free_place q ≡ some i → are_unlike (entered q i e) ≡ true
+entered_unlike : (q : Queue) (i : ℕ) (e : Entry) → are_unlike q ≡ true → place_of_id e.asks.que_id q ≡ None → free_place q ≡ Some i → are_unlike (entered q i e) ≡ true
 unfolding step
 entered_unlike q i e u n f = rw (n, f) at (unique_kept q u (Call.add e))
 
 -- the record of a body that is a downlink
-pub downlink_is : (b : Body) (x : DlDataQue) → downlink_in b ≡ some x → b ≡ Body.DlDataQue x
+pub downlink_is : (b : Body) (x : DlDataQue) → downlink_in b ≡ Some x → b ≡ Body.DlDataQue x
 downlink_is (Body.Con y) x e = none_some e
 downlink_is (Body.ConRsp y) x e = none_some e
 downlink_is (Body.StatusRsp y) x e = none_some e
@@ -64,7 +66,7 @@ module _ (q : List ℕ) (s : is_sound q ≡ true) where
     unlike = rw (queue_freed q i p.long h) (freed_unlike (queue_at q) i p.unlike (omega (arith, places_many q 0 32)));
   })
 
-  abbrev Sound : Queued → Type 0
+  abbrev Sound : {A : Type 0} → Queued A → Type 0
   Sound a = is_sound a.store ≡ true
 
   pub cancel_sound : (id : ℕ) → Sound (cancels q id)
@@ -82,7 +84,7 @@ module _ (q : List ℕ) (s : is_sound q ≡ true) where
     abbrev m : Message
     m = record { op_id = z; body = Body.DlDataQue x }
 
-    stored_sound : (i : ℕ) → place_of_id x.que_id (queue_at q) ≡ none → free_place (queue_at q) ≡ some i → is_sound (stored_at q i m x d) ≡ true
+    stored_sound : (i : ℕ) → place_of_id x.que_id (queue_at q) ≡ None → free_place (queue_at q) ≡ Some i → is_sound (stored_at q i m x d) ≡ true
     stored_sound i n f =
         let h : i < 32 = place_inside q 0 32 is_free i f in
         let c = stored_changed z x d fit q i p.long h in
@@ -92,7 +94,7 @@ module _ (q : List ℕ) (s : is_sound q ≡ true) where
           unlike = rw (queue_stored z x d fit q i p.long h) (entered_unlike (queue_at q) i (entry_of x d) p.unlike n f);
         })
 
-  add_as : (m : Message) (x : DlDataQue) (d : List ℕ) → m.body ≡ Body.DlDataQue x → fits m d ≡ true → (i : ℕ) → place_of_id x.que_id (queue_at q) ≡ none → free_place (queue_at q) ≡ some i
+  add_as : (m : Message) (x : DlDataQue) (d : List ℕ) → m.body ≡ Body.DlDataQue x → fits m d ≡ true → (i : ℕ) → place_of_id x.que_id (queue_at q) ≡ None → free_place (queue_at q) ≡ Some i
       → is_sound (stored_at q i m x d) ≡ true
   add_as m x d e fit i n f =
       let same : record { op_id = m.op_id; body = Body.DlDataQue x } ≡ m = λ j. record { op_id = m.op_id; body = sym e j } in

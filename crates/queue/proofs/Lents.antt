@@ -76,9 +76,9 @@ module _ (d : List ℕ) (n : ℕ) where
   lengths_none = rw sub_self
 
   module _ (i sum : ℕ) (e : sum ≡ sum_of (lengths_left d n i)) where
-    pub lengths_turn : 0 < i → i ≤ n → 64 + n ≤ length d → sum + get_or d (64 + (i - 1)) 0 ≡ sum_of (lengths_left d n (i - 1))
+    pub lengths_turn : 0 < i → i ≤ n → 64 + n ≤ length d → (x : ℕ) → x ≡ get_or d (64 + (i - 1)) 0 → sum + x ≡ sum_of (lengths_left d n (i - 1))
     unfolding sum_of
-    lengths_turn h l z =
+    lengths_turn h l z x p =
         let j : i - 1 + 1 ≡ i = omega arith in
         rw (length_first d n (i - 1) (omega arith) (omega arith), j) (omega arith)
 
@@ -88,11 +88,11 @@ module _ (d : List ℕ) (n : ℕ) where
         rw (z, sub-zero) at e
 
   -- a byte more
-  module _ (told : Told d) (i sum : ℕ) (h : 0 < i) (l : i ≤ n) (few : sum ≤ 255 * (n - i)) where
-    pub length_more : sum + get_or d (64 + (i - 1)) 0 ≤ 255 * (n - (i - 1))
+  module _ (told : Told d) (i sum : ℕ) (h : 0 < i) (l : i ≤ n) (few : sum ≤ 255 * (n - i)) (x : ℕ) (p : x ≡ get_or d (64 + (i - 1)) 0) where
+    pub length_more : sum + x ≤ 255 * (n - (i - 1))
     length_more = omega (arith, (told (64 + (i - 1))).fits)
 
-    pub length_fits : n ≤ 255 → Fits w64 (sum + get_or d (64 + (i - 1)) 0)
+    pub length_fits : n ≤ 255 → Fits w64 (sum + x)
     length_fits m = record { fits = omega (arith, (told (64 + (i - 1))).fits) }
 
 pub ruleset lengths = (byte_wide, lengths_none, lengths_turn, lengths_done, length_more, length_fits, arith)

@@ -5,7 +5,7 @@ use Prim.Native.Nat.{ℕ, zero, suc, ◌+◌, ◌-◌, ◌/◌, ◌%◌, ◌^◌
 use native.Mathlib.Nat.{mod-lt, mod-mod_of_dvd, dvd-mul_right, div-add-mod', div-lt_iff_lt-mul, mul_comm, mul-pos, mul-one, mul-le-mul_right, zero-lt-suc, zero-div, zero-mod}
 use native.Mathlib.Omega.{arith}
 use lib.{Dec.leb, Dec.eqb, Pow.pow_pos}
-use lib.Ieee.{Float, nan, inf, fin, Format, prec, low, hid, ones, top, up, below, level, lt, eq, of_fields, of_bits, nan_bits, Exact.HasValue, Exact.odd_sign}
+use lib.Ieee.{Float, nan, inf, fin, Format, prec, low, hid, ones, top, below, level, lt, eq, of_fields, of_bits, nan_bits, Exact.HasValue, Exact.odd_sign}
 use borrow.Author.Tests.{eqb-true, eqb-false, not-false, ne_eqb, eq-eqb}
 use Rattle.queue.proofs.{Magnitudes.units_at, Magnitudes.larger, Alike.Rising, Alike.same_below, Alike.same_level, Compared.Sized, Compared.lt_sized, Compared.eq_sized}
 

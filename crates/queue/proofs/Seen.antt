@@ -9,14 +9,14 @@ use Rattle.record.specs.Fits.{fits}
 use Rattle.queue.specs.Entry.{is_suitable}
 use Rattle.queue.specs.Queue.{has_id, is_free, place_of_id, free_place, chosen}
 use Rattle.queue.specs.Store.{store_size, entry_of, queue_at}
-use Rattle.queue.specs.Calls.{Queued, adds_at, downlink_in, adds, cancels, chooses}
+use Rattle.queue.specs.Calls.{Queued, refusal_in, adds_at, downlink_in, adds, cancels, chooses}
 use Rattle.queue.specs.Run.{Call, Stepped, step, is_done}
 use Rattle.queue.proofs.{Cases.by_place, Cases.by_test, Cases.by_places, Reached.place_inside, Reached.found_inside, Calling.is_store, Freeing.queue_freed, Storing.queue_stored}
 
 -- what a call answers and leaves, and what a step does and gives
-pub record Seen (a : Queued) (s : Stepped) : Type 0 where
+pub record Seen {A : Type 0} (a : Queued A) (s : Stepped) : Type 0 where
   pub queue : queue_at a.store ≡ s.queue
-  pub done : eqb a.answer.refusal 0 ≡ is_done s.did
+  pub done : eqb (refusal_in a.answer) 0 ≡ is_done s.did
 
 module _ (q : List ℕ) (long : length q ≡ store_size) where
   pub seen_cancel : (id : ℕ) → Seen (cancels q id) (step (queue_at q) (Call.cancel id))
@@ -46,8 +46,8 @@ module _ (q : List ℕ) (long : length q ≡ store_size) where
     seen_add = rw (is_store q long, fit) seen_fit
 
 -- refused
-abbrev Keeps : List ℕ → Queued → Type 0
-Keeps q a = (a.answer.refusal ≡ 0 → ⊥) → a.store ≡ q
+abbrev Keeps : {A : Type 0} → List ℕ → Queued A → Type 0
+Keeps q a = (refusal_in a.answer ≡ 0 → ⊥) → a.store ≡ q
 
 module _ (q : List ℕ) where
   pub refused_cancel : (id : ℕ) → Keeps q (cancels q id)

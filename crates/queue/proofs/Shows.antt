@@ -1,6 +1,7 @@
 -- What choose answers on a sound store shows the chosen entry's data for that counter: behind the record of its place, within the lent bytes, and still there
 -- after the call, which changes the place's command alone. Assumes nothing.
-use mathlib.Core.{Path.◌≡◌, Path.refl, Path.sym, Path.ap, Path.subst, Path.◌∙◌, Option.some}
+use mathlib.Core.{Path.◌≡◌, Path.refl, Path.sym, Path.ap, Path.subst, Path.◌∙◌}
+use Rattle.std.specs.Prelude.{Some, Ok}
 use mathlib.Core.{Bool.Bool, Bool.true, Bool.false, List.List, List.[], List.◌∷◌}
 use Prim.Native.Nat.{ℕ, zero, suc, ◌+◌, ◌*◌, ◌≤◌, ◌<◌}
 use native.Mathlib.Nat.{zero-add}
@@ -17,16 +18,18 @@ use Rattle.record.specs.{Says.sayings_of, Fits.first_fault, Fits.fault_in, Fits.
 use Rattle.layout.specs.Taken.{marks_of, number_at, signed_at, are_marks, dl_data_que_at, body_at, message_at}
 use Rattle.queue.specs.Entry.{Entry, is_suitable, piece_for, data_for}
 use Rattle.queue.specs.{Queue.Found, Queue.chosen, Store.store_size, Store.slot_at, Store.is_used, Store.queue_at, Store.is_whole, Store.is_sound}
-use Rattle.queue.specs.Calls.{Queued, queued, shown_at, freed_at, chooses}
+use Rattle.queue.specs.declared.Chosen.{Chosen}
+use Rattle.queue.specs.Calls.{Queued, queued, refusal_in, shown_at, freed_at, chooses}
 use Rattle.queue.specs.Code.Slots.{entry_at}
 use Rattle.queue.proofs.{Cases.by_place, Cases.by_test, Reached.found_inside, Reached.chosen_entry, Calling.is_store, Fitting.entries_together, Changed.wholes_are, Lasting.Parts, Lasting.parts}
 
 -- an answer that shows an entry's data for a counter
-pub record Shown (k : ℕ) (f : Found) (a : Queued) : Type 0 where
-  pub done : a.answer.refusal ≡ 0
-  pub place : a.answer.place ≡ f.place
-  pub inside : a.answer.from + a.answer.size ≤ 880
-  pub bytes : take a.answer.size (drop (984 * f.place + 104 + a.answer.from) a.store) ≡ data_for k f.entry
+pub record Shown (k : ℕ) (f : Found) (a : Queued Chosen) : Type 0 where
+  pub chosen : Chosen
+  pub done : a.answer ≡ Ok chosen
+  pub place : chosen.place ≡ f.place
+  pub inside : chosen.from + chosen.size ≤ 880
+  pub bytes : take chosen.size (drop (984 * f.place + 104 + chosen.from) a.store) ≡ data_for k f.entry
 
 -- a piece of bytes that are cut
 piece_at : (ns d : List ℕ) (j : ℕ) → get_or (cut_by ns d) j [] ≡ take (get_or ns j 0) (drop (sum_of (take j ns)) d)
@@ -98,7 +101,7 @@ module _ (q : List ℕ) (i k : ℕ) (long : length q ≡ 31488) (few : i < 32) w
   stands_there e p = subst (λ (e : Entry). from k e + size k e ≤ 880 → take (size k e) (drop (984 * i + 104 + from k e) (freed_at q i)) ≡ data_for k e) p
       (piece_there (entry_at (slot_at q i)).lengths (piece_for k (entry_at (slot_at q i))))
 
-module _ (q : List ℕ) (sound : is_sound q ≡ true) (eui k : ℕ) (expected : Bool) (f : Found) (h : chosen eui k expected (queue_at q) ≡ some f) where
+module _ (q : List ℕ) (sound : is_sound q ≡ true) (eui k : ℕ) (expected : Bool) (f : Found) (h : chosen eui k expected (queue_at q) ≡ Some f) where
   p : Parts q
   p = parts q sound
 
@@ -121,22 +124,22 @@ module _ (q : List ℕ) (sound : is_sound q ≡ true) (eui k : ℕ) (expected : 
   within : from k f.entry + size k f.entry ≤ 880
   within = omega (arith, together, piece_within f.entry.lengths (piece_for k f.entry))
 
-  answered : chooses q eui k expected ≡ queued (shown_at f.place (piece_for k f.entry) f.entry.lengths) (freed_at q f.place)
+  answered : chooses q eui k expected ≡ queued (Ok (shown_at f.place (piece_for k f.entry) f.entry.lengths)) (freed_at q f.place)
   unfolding chooses
   answered = is_store q p.long _ ∙ rw h
 
   shown : Shown k f (chooses q eui k expected)
-  shown = rw answered (record { done = refl; place = refl; inside = within; bytes = stands_there q f.place k p.long inside f.entry there.1 within })
+  shown = rw answered (record { chosen = shown_at f.place (piece_for k f.entry) f.entry.lengths; done = refl; place = refl; inside = within; bytes = stands_there q f.place k p.long inside f.entry there.1 within })
 
 -- of an answer without a refusal
 module _ (q : List ℕ) (eui k : ℕ) (expected : Bool) where
-  abbrev One : Queued → Type 0
-  One a = a.answer.refusal ≡ 0 → (f : Found) × (chosen eui k expected (queue_at q) ≡ some f)
+  abbrev One : Queued Chosen → Type 0
+  One a = refusal_in a.answer ≡ 0 → (f : Found) × (chosen eui k expected (queue_at q) ≡ Some f)
 
   one_chosen : One (chooses q eui k expected)
   unfolding chooses
   one_chosen =
       by_test One (eqb (length q) store_size) _ _ (λ l. by_place One (chosen eui k expected (queue_at q)) _ _ (λ f h n. (f, h)) (λ h n. absurd (omega arith))) (λ l n. absurd (omega arith))
 
-  pub shows : is_sound q ≡ true → (chooses q eui k expected).answer.refusal ≡ 0 → (f : Found) × (chosen eui k expected (queue_at q) ≡ some f) × Shown k f (chooses q eui k expected)
+  pub shows : is_sound q ≡ true → refusal_in (chooses q eui k expected).answer ≡ 0 → (f : Found) × (chosen eui k expected (queue_at q) ≡ Some f) × Shown k f (chooses q eui k expected)
   shows s n = let one = one_chosen n in (one.0, one.1, shown q s eui k expected one.0 one.1)

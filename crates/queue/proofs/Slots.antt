@@ -1,6 +1,7 @@
 -- What a place of the store says of its entry, field by field: its ID, whether it is suitable, where its data stand. Each law in the shape of a need of the code.
 -- Assumes nothing.
-use mathlib.Core.{Path.◌≡◌, Path.refl, Path.sym, Path.ap, Path.◌∙◌, Option.some, Option.none}
+use mathlib.Core.{Path.◌≡◌, Path.refl, Path.sym, Path.ap, Path.◌∙◌}
+use Rattle.std.specs.Prelude.{Some, None}
 use mathlib.Core.Bool.{Bool, true, false, not, ◌&&◌, ◌||◌, and-true}
 use mathlib.Core.List.{List, [], ◌∷◌}
 use Prim.Native.Nat.{ℕ, suc, ◌+◌, ◌-◌, ◌≤◌, ◌<◌}
@@ -12,7 +13,7 @@ use borrow.Author.Rules.{part_to_end}
 use Rattle.octets.specs.{Choice.either, Pieces.counters_from, Pieces.sum_of}
 use Rattle.forms.proofs.Downlinks.{counters_length}
 use Rattle.layout.specs.Taken.{number_at, flag_at, dl_data_que_at}
-use Rattle.queue.specs.declared.Answer.{Answer}
+use Rattle.queue.specs.declared.Chosen.{Chosen}
 use Rattle.queue.specs.Entry.{place_of, is_among, is_suitable, piece_for}
 use Rattle.queue.specs.{Queue.has_id, Store.is_used, Store.entry_in, Calls.shown_at, Code.Slots.passing, Code.Slots.names_counter, Code.Slots.entry_at}
 use Rattle.queue.proofs.Lents.{place_few}
@@ -42,7 +43,7 @@ module _ (s : List ℕ) where
   unfolding dl_data_que_at
   has_told u x k e f = rw (e, f) (go (is_used s))
     where
-      go : (b : Bool) → (b && eqb (number_at s 8 24) k) ≡ has_id k (either b (λ _. some (entry_at s)) (λ _. none))
+      go : (b : Bool) → (b && eqb (number_at s 8 24) k) ≡ has_id k (either b (λ _. Some (entry_at s)) (λ _. None))
       go true = refl
       go false = refl
 
@@ -103,7 +104,7 @@ piece_few s k = go (flag_at s 42)
 
 pub shown_is : (s : List ℕ) (i k j n f z : ℕ) → j ≡ piece_for k (entry_at s) → n ≡ number_at s 1 40 → f ≡ sum_of (take j (drop 64 (take (length s - 104) (drop 104 s))))
     → z ≡ get_or (take n (drop 64 (take (length s - 104) (drop 104 s)))) j 0
-    → ◌≡◌ {A = Answer} (record { refusal = 0; place = i; from = 80 + f; size = z }) (shown_at i (piece_for k (entry_at s)) (entry_at s).lengths)
+    → ◌≡◌ {A = Chosen} (record { place = i; from = 80 + f; size = z }) (shown_at i (piece_for k (entry_at s)) (entry_at s).lengths)
 unfolding dl_data_que_at
 shown_is s i k j n f z p q g h =
     let few : j ≤ n = omega (arith, piece_few s k) in

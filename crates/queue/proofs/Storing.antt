@@ -1,5 +1,6 @@
 -- An entry that is put at a place stands there: the record in the first 104 bytes, and behind them the bytes in use, whatever is behind those. Assumes nothing.
-use mathlib.Core.{Path.◌≡◌, Path.refl, Path.sym, Path.ap, Path.◌∙◌, Option.some}
+use mathlib.Core.{Path.◌≡◌, Path.refl, Path.sym, Path.ap, Path.◌∙◌}
+use Rattle.std.specs.Prelude.{Some}
 use mathlib.Core.{Bool.true, List.List, List.◌++◌, List.append_assoc, List.map}
 use Prim.Native.Nat.{ℕ, ◌+◌, ◌-◌, ◌*◌, ◌≤◌, ◌<◌}
 use native.Mathlib.Omega.{arith}
@@ -122,8 +123,8 @@ module _ (z : ℤ) (x : DlDataQue) (d : List ℕ) (fit : fits (record { op_id = 
     is_used_lem : is_used (message_image m ++ (used ++ t)) ≡ true
     is_used_lem = rw (byte_ahead (message_image m) (used ++ t) (image_size m) 8 (omega arith), command_put)
 
-    entry_in_lem : entry_in (message_image m ++ (used ++ t)) ≡ some (entry_of x d)
-    entry_in_lem = rw (is_used_lem, lent_behind, downlink_ahead (message_image m) (used ++ t) (image_size m), body_put) (ap some entry_same)
+    entry_in_lem : entry_in (message_image m ++ (used ++ t)) ≡ Some (entry_of x d)
+    entry_in_lem = rw (is_used_lem, lent_behind, downlink_ahead (message_image m) (used ++ t) (image_size m), body_put) (ap Some entry_same)
 
     whole_in_lem : is_whole (message_image m ++ (used ++ t)) ≡ true
     unfolding is_whole

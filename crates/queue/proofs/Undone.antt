@@ -1,5 +1,6 @@
 -- Adding an entry and cancelling its ID leaves the queue as it was, if the ID was not there: it is found at the place that it took, which was free. Assumes nothing.
-use mathlib.Core.{Path.◌≡◌, Path.refl, Path.sym, Path.ap, Path.◌∙◌, Bool.true, List.[], List.◌∷◌, Option.Option, Option.some, Option.none}
+use mathlib.Core.{Path.◌≡◌, Path.refl, Path.sym, Path.ap, Path.◌∙◌, Bool.true, List.[], List.◌∷◌}
+use Rattle.std.specs.Prelude.{Option, Some, None}
 use Prim.Native.Nat.{ℕ}
 use lib.{ListN.get_or, Seq.set-set, Seq.set-get_or}
 use borrow.Author.Tests.{eq-eqb}
@@ -9,18 +10,18 @@ use Rattle.queue.specs.Queue.{Queue, has_id, is_free, on_place, place_of_id, fre
 use Rattle.queue.specs.Run.{Call, Did, Stepped, stepped, step, after}
 use Rattle.queue.proofs.{Cases.by_place, Places.passes, Places.only_place}
 
-free_none : (x : Option Entry) → is_free x ≡ true → x ≡ none
-free_none none p = refl
-free_none (some e) p = true_false (sym p)
+free_none : (x : Option Entry) → is_free x ≡ true → x ≡ None
+free_none None p = refl
+free_none (Some e) p = true_false (sym p)
 
-module _ (q : Queue) (e : Entry) (new : place_of_id e.asks.que_id q ≡ none) where
+module _ (q : Queue) (e : Entry) (new : place_of_id e.asks.que_id q ≡ None) where
   -- at its place
-  taken_back : (i : ℕ) → free_place q ≡ some i → (step (entered q i e) (Call.cancel e.asks.que_id)).queue ≡ q
+  taken_back : (i : ℕ) → free_place q ≡ Some i → (step (entered q i e) (Call.cancel e.asks.que_id)).queue ≡ q
   unfolding step
   taken_back i h =
       let s = passes is_free q i h in
-      rw (only_place (has_id e.asks.que_id) q i (some e) s.0 new (eq-eqb e.asks.que_id e.asks.que_id refl))
-      (set-set q i (some e) none ∙ rw (free_none (get_or q i none) s.1) at (set-get_or q i none))
+      rw (only_place (has_id e.asks.que_id) q i (Some e) s.0 new (eq-eqb e.asks.que_id e.asks.que_id refl))
+      (set-set q i (Some e) None ∙ rw (free_none (get_or q i None) s.1) at (set-get_or q i None))
 
   abbrev cancelled : Stepped → Queue
   cancelled s = (step s.queue (Call.cancel e.asks.que_id)).queue

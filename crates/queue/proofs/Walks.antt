@@ -1,17 +1,20 @@
--- The walks over all places, from the last to the first: what is told of those that are left and of the one before them is told of all from there on. Each law in
--- the shape of a need of the code. Assumes nothing.
-use mathlib.Core.{Path.◌≡◌, Path.refl, Path.◌∙◌, Option.Option, Option.some, Option.none}
-use mathlib.Core.Bool.{Bool, true, false, not, ◌||◌}
+-- A place of the store, the places that are left where a walk comes to one, and the first that passes a test. Each law in the shape of a need of the code.
+-- Assumes nothing.
+use mathlib.Core.{Path.◌≡◌, Path.refl, Path.sym, Path.ap, Path.◌∙◌}
+use Rattle.std.specs.Prelude.{Option, Some, None, MatchOption}
+use mathlib.Core.Bool.{Bool, true, false, not}
 use mathlib.Core.List.{List, [], ◌∷◌}
 use Prim.Native.Nat.{ℕ, suc, ◌+◌, ◌-◌, ◌*◌, ◌≤◌, ◌<◌}
+use native.Mathlib.Nat.{zero-add}
 use native.Mathlib.Omega.{arith}
-use lib.{ListN.length, ListN.take, ListN.drop, ListN.length-drop, Seq.length-take-le}
+use lib.{ListN.length, ListN.take, ListN.drop, ListN.get_or, ListN.length-drop, Seq.length-take-le}
 use Rattle.octets.specs.Choice.{either}
 use Rattle.layout.specs.Taken.{number_at, dl_data_que_at}
 use Rattle.queue.specs.Entry.{Entry, goes_before}
-use Rattle.queue.specs.Queue.{has_id, is_free, one_on, first_place}
+use Rattle.queue.specs.Queue.{has_id, is_free, first_place}
 use Rattle.queue.specs.Store.{slot_at, is_used, entry_in, places_from, queue_at}
-use Rattle.queue.specs.Code.{Rank.bits_before, Slots.passing, Slots.entry_at, Slots.place_from, Slots.or_behind, Slots.is_found, Slots.left}
+use Rattle.queue.specs.Code.{Rank.bits_before, Slots.passing, Slots.entry_at, Slots.left}
+use Rattle.queue.proofs.{Places.missed, Places.first_at, Reached.places_many, Reached.place_at}
 
 -- a place of the store is a part of it
 module _ (q : List ℕ) (i : ℕ) where
@@ -34,7 +37,7 @@ module _ (q : List ℕ) (i : ℕ) where
   pub free_at : (r : Bool) → r ≡ is_used lent_slot → not r ≡ is_free (entry_in (slot_at q i))
   free_at r e = rw (← slot_is, e) (go (is_used lent_slot))
     where
-      go : (b : Bool) → not b ≡ is_free (either b (λ _. some (entry_at lent_slot)) (λ _. none))
+      go : (b : Bool) → not b ≡ is_free (either b (λ _. Some (entry_at lent_slot)) (λ _. None))
       go true = refl
       go false = refl
 
@@ -53,45 +56,31 @@ module _ (q : List ℕ) where
       let f : suc (i - 1) ≡ i = omega arith in
       rw (e, f)
 
+  pub left_at : (i : ℕ) → i < 32 → left q i ≡ entry_in (slot_at q i) ∷ left q (i + 1)
+  unfolding places_from
+  left_at i l =
+      let e : 32 - i ≡ suc (32 - (i + 1)) = omega arith in
+      let f : suc i ≡ i + 1 = omega arith in
+      rw (e, f)
+
   pub left_none : left q 32 ≡ []
   unfolding places_from
   left_none = refl
 
   -- the first that passes
   module _ (test : Option Entry → Bool) where
-    pub first_none : 32 ≡ place_from 32 (first_place test (left q 32))
-    unfolding first_place
-    first_none = rw left_none
+    abbrev pub Passes : ℕ → Type 0
+    Passes i = test (entry_in (slot_at q i)) ≡ true
 
-    module _ (i found : ℕ) (e : found ≡ place_from i (first_place test (left q i))) where
-      pub first_turn : 0 < i → i ≤ 32 → (b : Bool) (f : ℕ) → b ≡ test (entry_in (slot_at q (i - 1))) → f ≡ or_behind b (i - 1) found → f ≡ place_from (i - 1) (first_place test (left q (i - 1)))
-      unfolding first_place
-      first_turn h l b f p r = rw (left_next i h l, r, e, p) (go (test (entry_in (slot_at q (i - 1)))) (first_place test (left q i)))
-        where
-          go : (b : Bool) (o : Option ℕ) → either b (λ _. i - 1) (λ _. place_from i o) ≡ place_from (i - 1) (either b (λ _. some 0) (λ _. one_on o))
-          go true o = omega arith
-          go false none = refl
-          go false (some j) = omega arith
+    abbrev pub Fails : ℕ → Type 0
+    Fails i = test (entry_in (slot_at q i)) ≡ false
 
-      pub first_done : i ≤ 0 → found ≡ place_from 0 (first_place test (queue_at q))
-      first_done h = let z : i ≡ 0 = omega arith in rw z at e
+    place_is : (i : ℕ) → i < 32 → get_or (queue_at q) i None ≡ entry_in (slot_at q i)
+    place_is i h = rw zero-add at (place_at q 0 32 i h)
 
-    -- whether one passes
-    pub any_none : false ≡ is_found (first_place test (left q 32))
-    unfolding first_place
-    any_none = rw left_none
-
-    module _ (i : ℕ) (there : Bool) (e : there ≡ is_found (first_place test (left q i))) where
-      pub any_turn : 0 < i → i ≤ 32 → (b : Bool) → b ≡ test (entry_in (slot_at q (i - 1))) → b || there ≡ is_found (first_place test (left q (i - 1)))
-      unfolding first_place
-      any_turn h l b p = rw (left_next i h l, e, p) (go (test (entry_in (slot_at q (i - 1)))) (first_place test (left q i)))
-        where
-          go : (b : Bool) (o : Option ℕ) → b || is_found o ≡ is_found (either b (λ _. some 0) (λ _. one_on o))
-          go true o = refl
-          go false none = refl
-          go false (some j) = refl
-
-      pub any_done : i ≤ 0 → there ≡ is_found (first_place test (queue_at q))
-      any_done h = let z : i ≡ 0 = omega arith in rw z at e
-
-pub ruleset walks = (first_none, first_turn, first_done, any_none, any_turn, any_done, arith)
+    pub first_is : (r : Option ℕ) → MatchOption r ((k : ℕ) → 0 ≤ k → k < 32 → Fails k) (λ i. (0 ≤ i) × (i < 32) × Passes i × ((k : ℕ) → 0 ≤ k → k < i → Fails k)) → r ≡ first_place test (queue_at q)
+    first_is None m =
+        sym (missed test (queue_at q) (λ i h. let l : i < 32 = omega (arith, places_many q 0 32) in ap test (place_is i l) ∙ m i (omega arith) l))
+    first_is (Some i) m =
+        let l : i < 32 = m.1 in
+        sym (first_at test (queue_at q) i (omega (arith, places_many q 0 32)) (ap test (place_is i l) ∙ m.2) (λ k h. ap test (place_is k (omega arith)) ∙ m.3 k (omega arith) h))

@@ -4,21 +4,22 @@ use mathlib.Core.{Bool.Bool, List.List, List.[], List.◌∷◌, List.◌++◌}
 use Rattle.octets.specs.Choice.{either}
 use Rattle.record.specs.{declared.Message.Message, Fits.fits}
 use Rattle.queue.specs.{Queue.on_place, Store.entry_of, Run.Call}
-use Rattle.queue.specs.Calls.{Queued, downlink_in, adds, cancels, chooses}
+use Rattle.queue.specs.Calls.{downlink_in, adds, cancels, chooses}
 
 pub data HostCall : Type 0 where
   add : Message → List ℕ → HostCall
   cancel : ℕ → HostCall
   choose : ℕ → ℕ → Bool → HostCall
 
-unfoldable pub host_step : List ℕ → HostCall → Queued
-host_step q (HostCall.add m d) = adds q m d
-host_step q (HostCall.cancel id) = cancels q id
-host_step q (HostCall.choose eui k expected) = chooses q eui k expected
+-- the store after a call
+unfoldable pub host_step : List ℕ → HostCall → List ℕ
+host_step q (HostCall.add m d) = (adds q m d).store
+host_step q (HostCall.cancel id) = (cancels q id).store
+host_step q (HostCall.choose eui k expected) = (chooses q eui k expected).store
 
 unfoldable pub host_after : List ℕ → List HostCall → List ℕ
 host_after q [] = q
-host_after q (c ∷ cs) = host_after (host_step q c).store cs
+host_after q (c ∷ cs) = host_after (host_step q c) cs
 
 -- what is refused with 15 is no call on the queue
 unfoldable pub call_of : HostCall → List Call

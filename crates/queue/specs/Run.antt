@@ -1,6 +1,7 @@
 -- Runs of calls on a queue: what "added", "cancelled" and "chosen" mean in the theorems on them.
 use Rattle.std.specs.Prelude.{ℕ, ◌+◌, Bool, true, false, not, ◌&&◌}
-use mathlib.Core.{Path.◌≡◌, List.List, List.[], List.◌∷◌, Option.some, Option.none}
+use mathlib.Core.{Path.◌≡◌, List.List, List.[], List.◌∷◌}
+use Rattle.std.specs.Prelude.{Some, None}
 use lib.{Dec.eqb, ListN.get_or, Ieee.binary64, Ieee.fits, Ieee.is_nan}
 use Rattle.octets.specs.Choice.{either}
 use Rattle.queue.specs.Entry.{Entry}
@@ -78,7 +79,7 @@ abbrev pub is_real : Entry → Bool
 is_real e = fits binary64 e.asks.prio && not (is_nan e.asks.prio)
 
 abbrev pub AreReal : Queue → Type 0
-AreReal q = (i : ℕ) (e : Entry) → get_or q i none ≡ some e → is_real e ≡ true
+AreReal q = (i : ℕ) (e : Entry) → get_or q i None ≡ Some e → is_real e ≡ true
 
 abbrev pub adds_real : Call → Bool
 adds_real (Call.add e) = is_real e

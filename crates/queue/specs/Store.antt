@@ -1,7 +1,8 @@
 -- How a queue lies in lent memory: 32 places of 984 bytes, each a C struct chz_message, the record and its lent bytes. A place is used exactly if its command is
 -- dlDataQue, so all zeros is the empty queue.
 use Rattle.std.specs.Prelude.{ℕ, zero, suc, ◌*◌, Bool, true, ◌&&◌}
-use mathlib.Core.{List.List, List.[], List.◌∷◌, Option.Option, Option.some, Option.none}
+use mathlib.Core.{List.List, List.[], List.◌∷◌}
+use Rattle.std.specs.Prelude.{Option, Some, None}
 use lib.{Dec.eqb, ListN.length, ListN.take, ListN.drop}
 use Rattle.octets.specs.{Choice.either, Pieces.counters_lent, Pieces.lengths_lent, Pieces.pieces_lent}
 use Rattle.names.specs.Names.{downlink}
@@ -39,7 +40,7 @@ entry_of x d = record {
 }
 
 abbrev pub entry_in : List ℕ → Option Entry
-entry_in s = either (is_used s) (λ _. some (entry_of (dl_data_que_at s) (drop message_size s))) (λ _. none)
+entry_in s = either (is_used s) (λ _. Some (entry_of (dl_data_que_at s) (drop message_size s))) (λ _. None)
 
 -- n places from the i-th on
 unfoldable pub places_from : List ℕ → ℕ → ℕ → Queue

@@ -9,6 +9,7 @@ const SIGN: u64 = 0x8000_0000_0000_0000;
 
 const INFINITY: u64 = 0x7FF0_0000_0000_0000;
 
+#[tactic(auto, using(crate::proofs::Ranks::ranking))]
 fn is_nan(bits: u64) -> bool
     ensures { result ≡ nan_bits binary64 bits }
 {
@@ -16,6 +17,7 @@ fn is_nan(bits: u64) -> bool
 }
 
 // Sign and size as one number.
+#[tactic(auto, using(crate::proofs::Ranks::ranking))]
 fn rank(bits: u64) -> u64
     ensures { result ≡ rank_of bits }
 {
@@ -27,7 +29,8 @@ fn rank(bits: u64) -> u64
     }
 }
 
-// The higher prio, then the smaller ID.
+// The higher prio, then the smaller ID. No order of all prios, as a derived one would be: a NaN goes before none, nor does any go before it.
+#[tactic(auto, using(crate::proofs::Ranks::before))]
 pub fn goes_before(prio: u64, id: u64, other: u64, other_id: u64) -> bool
     ensures { result ≡ bits_before prio id other other_id }
 {

@@ -22,6 +22,7 @@ fn is_whole(s: &[u8]) -> bool
     faults::fault(m, &s[store::LENT..]) == 0
 }
 
+#[tactic(auto, using(crate::proofs::Judged::wholes, crate::proofs::Walks::slots_at))]
 fn is_whole_at(q: &[u8], i: usize) -> bool
     requires { (length q.now ≡ store_size) × (i < 32) }
     ensures { result ≡ is_whole (slot_at q.now i) }
@@ -41,6 +42,7 @@ fn id_at(q: &[u8], i: usize) -> u64
 }
 
 // No place behind the i-th has its queue ID.
+#[tactic(auto, using(crate::proofs::Judged::unlikes))]
 fn is_unlike_at(q: &[u8], i: usize) -> bool
     requires { (length q.now ≡ store_size) × (i < 32) }
     ensures { result ≡ is_unlike (entry_in (slot_at q.now i)) (left q.now (i + 1)) }
@@ -49,27 +51,27 @@ fn is_unlike_at(q: &[u8], i: usize) -> bool
         return true;
     }
     let id = id_at(q, i);
-    let mut unlike = true;
-    let mut j = SLOTS;
-    while i + 1 < j {
-        j -= 1;
-        unlike = !has_id_at(q, j, id) & unlike;
+    for j in i + 1..SLOTS {
+        if has_id_at(q, j, id) {
+            return false;
+        }
     }
-    unlike
+    true
 }
 
 // All places are whole, and no two have the same queue ID.
+#[tactic(auto, using(crate::proofs::Judged::sounds))]
 pub fn are_sound(q: &[u8]) -> bool
     requires { length q.now ≡ store_size }
     ensures { result ≡ (are_whole q.now 0 32 && are_unlike (queue_at q.now)) }
 {
-    let mut whole = true;
-    let mut unlike = true;
-    let mut i = SLOTS;
-    while 0 < i {
-        i -= 1;
-        whole = is_whole_at(q, i) & whole;
-        unlike = is_unlike_at(q, i) & unlike;
+    for i in 0..SLOTS {
+        if !is_whole_at(q, i) {
+            return false;
+        }
+        if !is_unlike_at(q, i) {
+            return false;
+        }
     }
-    whole & unlike
+    true
 }

@@ -8,7 +8,7 @@ ghost use Rattle.queue.specs.Store.{slot_size, is_used, entry_in};
 ghost use Rattle.queue.specs.Calls.{shown_at};
 ghost use Rattle.queue.specs.Code.Slots.{passing, names_counter, entry_at, or_behind};
 
-use crate::Answer;
+use crate::Chosen;
 use names::numbers::DL_DATA_QUE;
 use octets::little_at;
 
@@ -55,6 +55,14 @@ fn is_set(s: &[u8], at: usize) -> bool
     byte(s, at) != 0
 }
 
+// How many data entries it has.
+fn entries(s: &[u8]) -> usize
+    ensures value { result ≡ number_at s.now 1 40 }
+    ensures few { result ≤ 255 }
+{
+    usize::from(byte(s, ENTRIES))
+}
+
 pub fn is_used(s: &[u8]) -> bool
     ensures { result ≡ is_used s.now }
 {
@@ -74,6 +82,7 @@ pub fn prio(s: &[u8]) -> u64
     little_at(s, PRIO, 8)
 }
 
+#[tactic(auto, using(crate::proofs::Slots::slots))]
 pub fn has_id(s: &[u8], wanted: u64) -> bool
     ensures { result ≡ has_id wanted (entry_in s.now) }
 {
@@ -81,23 +90,22 @@ pub fn has_id(s: &[u8], wanted: u64) -> bool
 }
 
 // i if it passes, else what came of those behind it.
-pub fn or_behind(passes: bool, i: usize, rest: usize) -> usize
+fn or_behind(passes: bool, i: usize, rest: usize) -> usize
     ensures { result ≡ or_behind passes i rest }
 {
     if passes { i } else { rest }
 }
 
 // The first place of a counter among n that are lent; n where it is none of them.
+#[tactic(auto, using(crate::proofs::Lents::counters))]
 fn place_of(d: &[u8], n: usize, k: u32) -> usize
     requires { (n ≤ 255) × (length d.now ≡ 880) }
     ensures value { result ≡ place_of k (counters_from d.now n 0) }
     ensures few { result ≤ n }
 {
     let mut found = n;
-    let mut i = n;
-    while 0 < i {
-        i -= 1;
-        found = or_behind(little_at(d, 4 * i, 4) == (k as u64), i, found);
+    for i in (0..n).rev() {
+        found = or_behind(little_at(d, 4 * i, 4) == u64::from(k), i, found);
     }
     found
 }
@@ -109,15 +117,14 @@ pub fn length_of(d: &[u8], n: usize) -> usize
     ensures most { result ≤ 65025 }
 {
     let mut sum: usize = 0;
-    let mut i = n;
-    while 0 < i {
-        i -= 1;
-        sum += d[LENGTHS + i] as usize;
+    for i in (0..n).rev() {
+        sum += usize::from(d[LENGTHS + i]);
     }
     sum
 }
 
 // The length of the j-th of n data entries that are lent; 0 past them.
+#[tactic(auto, using(crate::proofs::Slots::lengths_at))]
 fn length_at(d: &[u8], n: usize, j: usize) -> u8
     requires { 64 + n ≤ length d.now }
     ensures { result ≡ get_or (take n (drop 64 d.now)) j 0 }
@@ -133,7 +140,7 @@ fn names_counter(s: &[u8], k: u32) -> bool
     if !is_set(s, CNT_DEPEND) {
         return true;
     }
-    let n = byte(s, ENTRIES) as usize;
+    let n = entries(s);
     place_of(&s[LENT..], n, k) < n
 }
 
@@ -160,19 +167,18 @@ fn piece(s: &[u8], k: u32) -> usize
     if !is_set(s, CNT_DEPEND) {
         return 0;
     }
-    place_of(&s[LENT..], byte(s, ENTRIES) as usize, k)
+    place_of(&s[LENT..], entries(s), k)
 }
 
-// An answer that shows them.
-pub fn shown(s: &[u8], i: usize, k: u32) -> Answer
+// Where they stand, of the i-th place.
+pub fn shown(s: &[u8], i: usize, k: u32) -> Chosen
     requires { (length s.now ≡ slot_size) × (i < 32) }
     ensures { result ≡ shown_at i (piece_for k (entry_at s.now)) (entry_at s.now).lengths }
 {
     let j = piece(s, k);
-    let n = byte(s, ENTRIES) as usize;
+    let n = entries(s);
     let from = PIECES + length_of(&s[LENT..], j);
-    Answer {
-        refusal: 0,
+    Chosen {
         place: i as u8,
         from: from as u16,
         size: length_at(&s[LENT..], n, j),

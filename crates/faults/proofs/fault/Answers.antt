@@ -3,8 +3,8 @@ use Rattle.faults.proofs.Bodies.{whole}
 use Rattle.std.proofs.Common.{rules}
 use Rattle.faults.proofs.fault.Goals as goal
 
-pub returns-then-f : goal.returns-then-f
-returns-then-f c = search (whole, rules)
+pub returns-in-Some : goal.returns-in-Some
+returns-in-Some c = search (whole, rules)
 
-pub returns : goal.returns
-returns c = search (whole, rules)
+pub returns-in-None : goal.returns-in-None
+returns-in-None c = search (whole, rules)

@@ -1,5 +1,5 @@
 -- Serves the proofs only: the tests of a command's fields in their order, as the code makes them. proofs/Bodies ties them to record's Fits.
-use Rattle.std.specs.Prelude.{◌≡◌, ℕ, zero, suc, ◌+◌, ◌-◌, Bool, not, ◌&&◌, ◌||◌, List, [], ◌∷◌, Float}
+use Rattle.std.specs.Prelude.{◌≡◌, ℕ, zero, suc, ◌+◌, ◌-◌, Bool, not, ◌&&◌, ◌||◌, List, [], ◌∷◌, Option, Some, Float}
 use lib.{Dec.eqb, Dec.leb, ListN.length, ListN.drop}
 use Rattle.std.specs.Float.{binary32}
 use Rattle.std.specs.Float.Ieee.{fits as holds}
@@ -130,5 +130,5 @@ body_fault (Body.DlDataQue x) d = dl_data_que_fault x d
 body_fault (Body.Bare c) d = bare_fault c
 
 -- what is told without a look at the fields, unless it waits for them
-pub record AtOnce (b : Body) (r : ℕ) : Type 0 where
-  pub told : (d : List ℕ) → (r ≡ 255 → ⊥) → r ≡ body_fault b d
+pub record AtOnce (b : Body) (r : Option ℕ) : Type 0 where
+  pub told : (d : List ℕ) (n : ℕ) → r ≡ Some n → n ≡ body_fault b d

@@ -3,35 +3,5 @@ use Rattle.queue.proofs.Adding.{commands}
 use Rattle.std.proofs.Common.{rules}
 use Rattle.queue.proofs.add.Goals as goal
 
-pub returns-then-q-ne-SIZE : goal.returns-then-q-ne-SIZE
-returns-then-q-ne-SIZE c = search (commands, rules)
-
-pub returns-in-Con : goal.returns-in-Con
-returns-in-Con c = search (commands, rules)
-
-pub returns-in-ConRsp : goal.returns-in-ConRsp
-returns-in-ConRsp c = search (commands, rules)
-
-pub returns-in-StatusRsp : goal.returns-in-StatusRsp
-returns-in-StatusRsp c = search (commands, rules)
-
-pub returns-in-Det : goal.returns-in-Det
-returns-in-Det c = search (commands, rules)
-
-pub returns-in-DetRsp : goal.returns-in-DetRsp
-returns-in-DetRsp c = search (commands, rules)
-
-pub returns-in-AttPrp : goal.returns-in-AttPrp
-returns-in-AttPrp c = search (commands, rules)
-
-pub returns-in-DetPrp : goal.returns-in-DetPrp
-returns-in-DetPrp c = search (commands, rules)
-
-pub returns-in-UlData : goal.returns-in-UlData
-returns-in-UlData c = search (commands, rules)
-
 pub returns-in-DlDataQue : goal.returns-in-DlDataQue
 returns-in-DlDataQue c = search (commands, rules)
-
-pub returns-in-Bare : goal.returns-in-Bare
-returns-in-Bare c = search (commands, rules)

@@ -7,6 +7,3 @@ use Rattle.layout.proofs.taken.are_marks.Given as goal
 
 abbrev pub invariant-loop-i : goal.invariant-loop-i
 invariant-loop-i l = (l.i ≤ l.n) × ((l.ok && are_marks l.d (places (l.at + l.i) (l.n - l.i))) ≡ are_marks l.d (places l.at l.n))
-
-abbrev pub decreases-loop-i : goal.decreases-loop-i
-decreases-loop-i l = l.n - l.i

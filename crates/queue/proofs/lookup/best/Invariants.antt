@@ -7,6 +7,3 @@ use Rattle.queue.proofs.lookup.best.Given as goal
 
 abbrev pub invariant-loop-i : goal.invariant-loop-i
 invariant-loop-i l = (l.i ≤ 32) × (l.best ≡ found_from l.i (chosen l.eui l.k l.expected (left l.q l.i)))
-
-abbrev pub decreases-loop-i : goal.decreases-loop-i
-decreases-loop-i l = l.i

@@ -1,4 +1,4 @@
--- The place against those that are left. Assumes nothing.
+-- The place against all behind it is the place against those that are left. Assumes nothing.
 use mathlib.Core.Path.{◌≡◌}
 use Prim.Native.Nat.{◌+◌, ◌≤◌}
 use Rattle.queue.specs.Queue.{is_unlike}
@@ -7,7 +7,4 @@ use Rattle.queue.specs.Code.Slots.{left}
 use Rattle.queue.proofs.sound.is_unlike_at.Given as goal
 
 abbrev pub invariant-loop-j : goal.invariant-loop-j
-invariant-loop-j l = (l.i + 1 ≤ l.j) × (l.j ≤ 32) × (l.unlike ≡ is_unlike (entry_in (slot_at l.q l.i)) (left l.q l.j))
-
-abbrev pub decreases-loop-j : goal.decreases-loop-j
-decreases-loop-j l = l.j
+invariant-loop-j l = (l.j ≤ 32) × (is_unlike (entry_in (slot_at l.q l.i)) (left l.q (l.i + 1)) ≡ is_unlike (entry_in (slot_at l.q l.i)) (left l.q l.j))

@@ -7,6 +7,3 @@ use Rattle.queue.proofs.store.length_of.Given as goal
 
 abbrev pub invariant-loop-i : goal.invariant-loop-i
 invariant-loop-i l = (l.i ≤ l.n) × (l.sum ≡ sum_of (lengths_left l.d l.n l.i)) × (l.sum ≤ 255 * (l.n - l.i))
-
-abbrev pub decreases-loop-i : goal.decreases-loop-i
-decreases-loop-i l = l.i

@@ -7,6 +7,3 @@ use Rattle.queue.proofs.store.place_of.Given as goal
 
 abbrev pub invariant-loop-i : goal.invariant-loop-i
 invariant-loop-i l = (l.i ≤ l.n) × (l.found ≡ l.i + place_of l.k (counters_from l.d (l.n - l.i) (4 * l.i)))
-
-abbrev pub decreases-loop-i : goal.decreases-loop-i
-decreases-loop-i l = l.i
