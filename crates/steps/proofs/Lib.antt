@@ -1,3 +1,4 @@
+
 pub mod Tests
 pub mod Lying
 pub mod Knowing

@@ -7,6 +7,7 @@ ghost use Rattle.record.specs.{Record.four_of, Record.sixteen_of, Says.sixteen_b
 use octets::{big_at, put_big};
 use record::Sixteen;
 
+#[tactic(auto, using(crate::proofs::Sixteens::sixteen_read))]
 pub fn sixteen_at(d: &[u8], at: usize) -> Sixteen
     requires { at + 16 ≤ length d.now }
     ensures { result ≡ sixteen_of (take 16 (drop at d.now)) }
@@ -25,6 +26,7 @@ pub fn four_of(d: &[u8]) -> u32
 }
 
 // Whether the sixteen bytes from a place on are these.
+#[tactic(auto, using(crate::proofs::Sixteens::sixteen_same))]
 pub fn same_sixteen(d: &[u8], at: usize, x: Sixteen) -> bool
     requires { at + 16 ≤ length d.now }
     ensures { result ≡ same_bytes (take 16 (drop at d.now)) (sixteen_bytes x) }
@@ -32,6 +34,7 @@ pub fn same_sixteen(d: &[u8], at: usize, x: Sixteen) -> bool
     (big_at(d, at, 8) == x.high) & (big_at(d, at + 8, 8) == x.low)
 }
 
+#[tactic(auto, using(crate::proofs::Sixteens::sixteen_put))]
 pub fn put_sixteen(d: &mut [u8], at: usize, x: Sixteen)
     requires { at + 16 ≤ length d.old }
     ensures { d.new ≡ put_at d.old at (sixteen_bytes x) }

@@ -38,6 +38,7 @@ pub const CONNECTING: u8 = 1;
 pub const OPEN: u8 = 2;
 
 // Whether the bytes are some session's.
+#[tactic(auto, using(crate::proofs::Lying::session_short, crate::proofs::Lying::session_test))]
 pub fn is_session(d: &[u8]) -> bool
     ensures { result ≡ is_session d.now }
 {

@@ -14,6 +14,7 @@ use record::Sixteen;
 const OPERATIONS: usize = 304;
 
 // A place is taken by an operation of the station, whose ID is the highest known.
+#[tactic(auto, using(crate::proofs::Storing::in_bytes, crate::proofs::Storing::station_taken))]
 pub fn take_station(d: &mut [u8], i: usize, id: i64, kind: u8)
     requires { Lies d.old × (i < 16) }
     ensures { d.new ≡ session_image (with_station (session_at d.old) id (taken (session_at d.old).station i id kind)) }
@@ -24,6 +25,7 @@ pub fn take_station(d: &mut [u8], i: usize, id: i64, kind: u8)
     put_little(d, lies::HIGHEST, 8, bits);
 }
 
+#[tactic(auto, using(crate::proofs::Storing::in_bytes, crate::proofs::Storing::station_freed))]
 pub fn free_station(d: &mut [u8], i: usize)
     requires { Lies d.old × (i < 16) }
     ensures { d.new ≡ session_image (with_station (session_at d.old) (session_at d.old).highest (freed (session_at d.old).station i)) }
@@ -33,6 +35,7 @@ pub fn free_station(d: &mut [u8], i: usize)
 }
 
 // A place is taken by an operation of the centre, whose ID is the lowest issued.
+#[tactic(auto, using(crate::proofs::Storing::in_bytes, crate::proofs::Storing::centre_taken))]
 pub fn take_centre(d: &mut [u8], i: usize, id: i64, kind: u8)
     requires { Lies d.old × (i < 16) }
     ensures { d.new ≡ session_image (with_centre (session_at d.old) id (taken (session_at d.old).centre i id kind)) }
@@ -43,6 +46,7 @@ pub fn take_centre(d: &mut [u8], i: usize, id: i64, kind: u8)
     put_little(d, lies::LOWEST, 8, bits);
 }
 
+#[tactic(auto, using(crate::proofs::Storing::in_bytes, crate::proofs::Storing::centre_freed))]
 pub fn free_centre(d: &mut [u8], i: usize)
     requires { Lies d.old × (i < 16) }
     ensures { d.new ≡ session_image (with_centre (session_at d.old) (session_at d.old).lowest (freed (session_at d.old).centre i)) }
