@@ -1,17 +1,13 @@
 -- What the calls on sessions answer, and what the lent bytes hold afterwards: a refused call changes nothing.
-use Rattle.std.specs.Prelude.{ℕ, List, Ok, Err}
+use Rattle.std.specs.Prelude.{ℕ, List}
 use lib.{Dec.eqb, ListN.length}
 use Rattle.octets.specs.Choice.{either}
-use Rattle.refusal.specs.Number.{number_of}
-use Rattle.session.specs.Happened.{happened_number}
-use Rattle.steps.specs.Called.{Answer, Called, arrive_on, begin_on}
+use Rattle.steps.specs.Called.{Answer, Called, step_refusal, step_happened, step_length, arrive_on, begin_on}
 use Rattle.layout.specs.{Image.message_size, Taken.message_at}
 use Rattle.chozukpima.specs.Packed.{packed, refused_with}
 
--- a refusal returns its number and zeros besides
 abbrev pub step_answer : Answer → ℕ
-step_answer (Ok a) = packed 0 (happened_number a.happened) a.length
-step_answer (Err r) = packed (number_of r) 0 0
+step_answer a = packed (step_refusal a) (step_happened a) (step_length a)
 
 -- an answer, and the session's bytes and the room afterwards
 pub record Returned : Type 0 where

@@ -9,17 +9,25 @@ use Rattle.record.specs.declared.Message.{Message}
 use Rattle.record.specs.Written.{frame_for}
 use Rattle.session.specs.{Session.Session, Session.Host, Arrive.Outcome, Arrive.arrives, Centre.centre_begins, Centre.lost, Run.loss_of}
 use Rattle.session.specs.{Image.session_image, Image.session_at, Image.is_session}
-use Rattle.session.specs.declared.Happened.{Happened}
+use Rattle.session.specs.{declared.Happened.Happened, Happened.happened_number}
 use Rattle.steps.specs.declared.Done.{Done}
 
 -- what happened and how many bytes stand in the room, or a refusal
 abbrev pub Answer : Type 0
 Answer = Result Done Refusal
 
--- document 01's number of an answer; 0 where the step was taken
+-- the numbers of an answer: a refusal has document 01's number and zeros besides, a step that was taken 0, what happened and its length
 abbrev pub step_refusal : Answer → ℕ
 step_refusal (Ok a) = 0
 step_refusal (Err r) = number_of r
+
+abbrev pub step_happened : Answer → ℕ
+step_happened (Ok a) = happened_number a.happened
+step_happened (Err r) = 0
+
+abbrev pub step_length : Answer → ℕ
+step_length (Ok a) = a.length
+step_length (Err r) = 0
 
 -- an answer, and the session's bytes and the room afterwards
 pub record Called : Type 0 where
