@@ -23,7 +23,6 @@ pub struct Credited {
 }
 
 // A payload that arrived from a station.
-#[tactic(auto, using(crate::proofs::Playing::playing))]
 pub fn play(
     session: &mut [u8],
     used: &[u8],
@@ -107,12 +106,12 @@ fn before_arrival(session: &mut [u8], b: Body)
     ensures { session.new ≡ before_arrival b session.old }
 {
     if record::command_in(b) == names::numbers::CON {
-        steps::lose(session);
+        // What is no session's stays, and is refused as the con arrives.
+        let _ = steps::lose(session);
     }
 }
 
 // Whether the session accepts a message. The reply is thrown away.
-#[tactic(auto, using(crate::proofs::Arriving::arriving))]
 fn accepts(session: &mut [u8], m: Message, lent: &[u8]) -> bool
     ensures session { session.new ≡ (arrival replaying session.old m lent.now).session }
     ensures accepted { result ≡ is_ok (arrival replaying session.old m lent.now).answer }
@@ -126,7 +125,6 @@ fn accepts(session: &mut [u8], m: Message, lent: &[u8]) -> bool
 }
 
 // An accepted message: a ulData goes to the table.
-#[tactic(auto, using(crate::proofs::Crediting::passing))]
 fn to_table(
     used: &[u8],
     euis: &[u64],
