@@ -9,6 +9,7 @@ ghost use Rattle.steps.specs.Called.{Called, called, called_by};
 
 use crate::places::{free_place, place_of};
 use crate::reply::{bare, rsp};
+use crate::side::Side;
 use crate::{Done, lies, stored};
 use names::numbers;
 use refusal::Refusal;
@@ -59,12 +60,11 @@ fn start_at(d: &mut [u8], start: u8, answer: u8, sign: u32, id: i64, room: &mut 
     ensures { ◌≡◌ {A = Called} (called result d.new room.new)
         (called_by d.old room.old (start_at (session_at d.old) sign (started_by start answer) id (free_place (session_at d.old).station))) }
 {
-    let i = free_place(d, lies::STATION_IDS);
-    if i == lies::PLACES {
+    let Some(i) = free_place(d, Side::Station) else {
         return Err(Refusal::SixteenOpen);
-    }
+    };
     let length = writer::reply(rsp(sign, answer, id), room)?;
-    stored::take_station(d, i, id, start);
+    stored::take(d, Side::Station, i, id, start);
     Ok(Done {
         happened: Happened::Started,
         length,
@@ -78,11 +78,10 @@ fn completes(d: &mut [u8], start: u8, id: i64) -> Result<Done, Refusal>
     ensures { (room : List ℕ) → ◌≡◌ {A = Called} (called result d.new room)
         (called_by d.old room (complete_at (session_at d.old) (entry_place id start (session_at d.old).station))) }
 {
-    let i = place_of(d, lies::STATION_IDS, lies::STATION_KINDS, id, start);
-    if i == lies::PLACES {
+    let Some(i) = place_of(d, Side::Station, id, start) else {
         return Err(Refusal::State);
-    }
-    stored::free_station(d, i);
+    };
+    stored::free(d, Side::Station, i);
     Ok(Done {
         happened: Happened::Completed,
         length: 0,
@@ -95,12 +94,11 @@ fn answers(d: &mut [u8], start: u8, complete: u8, id: i64, room: &mut [u8]) -> R
     ensures { ◌≡◌ {A = Called} (called result d.new room.new)
         (called_by d.old room.old (respond_at (session_at d.old) (ended_by start complete) id (entry_place id start (session_at d.old).centre))) }
 {
-    let i = place_of(d, lies::CENTRE_IDS, lies::CENTRE_KINDS, id, start);
-    if i == lies::PLACES {
+    let Some(i) = place_of(d, Side::Centre, id, start) else {
         return Err(Refusal::State);
-    }
+    };
     let length = writer::reply(bare(complete, id), room)?;
-    stored::free_centre(d, i);
+    stored::free(d, Side::Centre, i);
     Ok(Done {
         happened: Happened::Answered,
         length,
