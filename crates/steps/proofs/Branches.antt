@@ -2,7 +2,7 @@
 -- on is kept by the machine, and what was written and stored is the rule's reply and session. Assumes nothing.
 use mathlib.Core.Path.{◌≡◌, sym, ap, ◌∙◌}
 use mathlib.Core.{List.List, List.[], Option.Option, Option.some, Option.none}
-use Prim.Native.Nat.{ℕ, ◌≤◌}
+use Prim.Native.Nat.{ℕ}
 use lib.IntN.{ℤ}
 use mir.Syntax.{w64}
 use mir.Val.{SFits, to_z, of_z}

@@ -1,4 +1,3 @@
-
 pub mod Tests
 pub mod Lying
 pub mod Knowing

@@ -6,7 +6,7 @@ use mathlib.Core.List.{List, [], ◌++◌, append-nil}
 use Prim.Native.Nat.{ℕ, ◌+◌, ◌^◌, ◌≤◌, ◌<◌}
 use native.Mathlib.Omega.{arith}
 use lib.Dec.{eqb}
-use lib.ListN.{length, get_or, set, take, drop, replicate, length-replicate, replicate-append-replicate}
+use lib.ListN.{length, get_or, take, drop}
 use lib.Seq.{take-add, take_all, drop_at, drop-drop, get_or-take, get_or-drop}
 use mir.Syntax.{w64}
 use mir.Val.{Fits}
@@ -14,7 +14,7 @@ use borrow.Author.Tests.{eq-eqb, eqb-true}
 use Rattle.octets.specs.{Number.big_at, Number.if_there, Bytes.IsBytes, Bytes.big_bytes, Bytes.put_at, Code.Put.put_number}
 use Rattle.octets.proofs.{Digits.length_big, Digits.big_here, Digits.big_again, Places.same_big, Ranges.same_test, Truth.both}
 use Rattle.octets.proofs.{Reading.Told, Reading.is_bytes, Reading.if_there_lem}
-use Rattle.octets.proofs.Writing.{put_then, put_next, put_none, length_put}
+use Rattle.octets.proofs.Writing.{put_then}
 use Rattle.names.specs.Names.{same_bytes}
 use Rattle.names.proofs.Same.{same_eq, eq_same}
 use Rattle.record.specs.declared.Sixteen.{Sixteen}

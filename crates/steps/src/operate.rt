@@ -15,7 +15,13 @@ use names::numbers;
 use refusal::Refusal;
 use session::Happened;
 
-pub fn in_open(d: &mut [u8], sign: u32, command: u8, id: i64, room: &mut [u8]) -> Result<Done, Refusal>
+pub fn in_open(
+    d: &mut [u8],
+    sign: u32,
+    command: u8,
+    id: i64,
+    room: &mut [u8],
+) -> Result<Done, Refusal>
     requires { Lies d.old }
     ensures { ◌≡◌ {A = Called} (called result d.new room.new)
         (called_by d.old room.old (in_open (session_at d.old) sign command id)) }
@@ -43,7 +49,14 @@ pub fn in_open(d: &mut [u8], sign: u32, command: u8, id: i64, room: &mut [u8]) -
 }
 
 // A station starts with an ID above the highest known and above 0 (18).
-fn starts(d: &mut [u8], start: u8, answer: u8, sign: u32, id: i64, room: &mut [u8]) -> Result<Done, Refusal>
+fn starts(
+    d: &mut [u8],
+    start: u8,
+    answer: u8,
+    sign: u32,
+    id: i64,
+    room: &mut [u8],
+) -> Result<Done, Refusal>
     requires { Lies d.old × (is_reply answer ≡ true) }
     ensures { ◌≡◌ {A = Called} (called result d.new room.new)
         (called_by d.old room.old (starts (session_at d.old) sign (started_by start answer) id)) }
@@ -55,7 +68,14 @@ fn starts(d: &mut [u8], start: u8, answer: u8, sign: u32, id: i64, room: &mut [u
 }
 
 // With a free place (19); the reply is the Rsp.
-fn start_at(d: &mut [u8], start: u8, answer: u8, sign: u32, id: i64, room: &mut [u8]) -> Result<Done, Refusal>
+fn start_at(
+    d: &mut [u8],
+    start: u8,
+    answer: u8,
+    sign: u32,
+    id: i64,
+    room: &mut [u8],
+) -> Result<Done, Refusal>
     requires { Lies d.old × (is_reply answer ≡ true) }
     ensures { ◌≡◌ {A = Called} (called result d.new room.new)
         (called_by d.old room.old (start_at (session_at d.old) sign (started_by start answer) id (free_place (session_at d.old).station))) }

@@ -1,13 +1,11 @@
 use borrow.Author.Rules.{rules}
-use Rattle.steps.proofs.Branches.{issue_full, issue_unfit, issue_unsent, issue_sent}
+use Rattle.steps.proofs.Branches.{issue_unfit, issue_unsent, issue_sent}
 use Rattle.steps.proofs.Tests.{fault_none}
-use Rattle.steps.proofs.Storing.{long}
 use Rattle.std.proofs.Common.{rules}
 use Rattle.steps.proofs.issue.issue.Goals as goal
 
 pub put-requires : goal.put-requires
 put-requires c = fault_none _ _ _ c.fault.ensures c.if-fault-ne0.false
-
 
 pub returns-then-fault-ne0 : goal.returns-then-fault-ne0
 returns-then-fault-ne0 c = search (issue_unfit, rules)

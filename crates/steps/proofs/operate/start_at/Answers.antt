@@ -1,10 +1,8 @@
 use borrow.Author.Rules.{rules}
-use Rattle.steps.proofs.Branches.{start_full, start_unsent, start_sent}
+use Rattle.steps.proofs.Branches.{start_unsent, start_sent}
 use Rattle.steps.proofs.Replies.{replies}
-use Rattle.steps.proofs.Storing.{long}
 use Rattle.std.proofs.Common.{rules}
 use Rattle.steps.proofs.operate.start_at.Goals as goal
-
 
 pub reply-requires : goal.reply-requires
 reply-requires c = search (replies, rules)
