@@ -1,5 +1,5 @@
 // Bytes where they lie, as numbers: sixteen as two, four as one.
-ghost use Rattle.std.specs.Prelude.{◌≡◌, ◌+◌, ◌≤◌, length, take, drop, replicate};
+ghost use Rattle.std.specs.Prelude.{◌≡◌, ◌+◌, ◌≤◌, length, take, drop};
 ghost use Rattle.names.specs.Names.{same_bytes};
 ghost use Rattle.octets.specs.Bytes.{put_at};
 ghost use Rattle.record.specs.{Record.four_of, Record.sixteen_of, Says.sixteen_bytes};
@@ -41,16 +41,4 @@ pub fn put_sixteen(d: &mut [u8], at: usize, x: Sixteen)
 {
     put_big(d, at, 8, x.high);
     put_big(d, at + 8, 8, x.low);
-}
-
-// n zeros from a place on.
-pub fn clear(d: &mut [u8], at: usize, n: usize)
-    requires { at + n ≤ length d.old }
-    ensures { d.new ≡ put_at d.old at (replicate n 0) }
-{
-    let mut i: usize = 0;
-    while i < n {
-        d[at + i] = 0;
-        i += 1;
-    }
 }

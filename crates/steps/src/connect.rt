@@ -17,7 +17,13 @@ use refusal::Refusal;
 use session::Happened;
 
 // Waiting takes only con (17).
-pub fn in_waiting(d: &mut [u8], m: Message, sc_eui: u64, uuid: &[u8], room: &mut [u8]) -> Result<Done, Refusal>
+pub fn in_waiting(
+    d: &mut [u8],
+    m: Message,
+    sc_eui: u64,
+    uuid: &[u8],
+    room: &mut [u8],
+) -> Result<Done, Refusal>
     requires { Lies d.old × (length uuid.now ≡ 16) }
     ensures { ◌≡◌ {A = Called} (called result d.new room.new)
         (called_by d.old room.old (in_waiting (session_at d.old) m (host_of sc_eui uuid.now []))) }
@@ -31,7 +37,14 @@ pub fn in_waiting(d: &mut [u8], m: Message, sc_eui: u64, uuid: &[u8], room: &mut
 }
 
 // A con: 18 (opId must be 0), 16.
-fn takes_con(d: &mut [u8], id: i64, x: Con, sc_eui: u64, uuid: &[u8], room: &mut [u8]) -> Result<Done, Refusal>
+fn takes_con(
+    d: &mut [u8],
+    id: i64,
+    x: Con,
+    sc_eui: u64,
+    uuid: &[u8],
+    room: &mut [u8],
+) -> Result<Done, Refusal>
     requires { Lies d.old × (length uuid.now ≡ 16) }
     ensures { ◌≡◌ {A = Called} (called result d.new room.new)
         (called_by d.old room.old (takes_con (session_at d.old) id x (host_of sc_eui uuid.now []))) }

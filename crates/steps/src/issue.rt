@@ -5,7 +5,8 @@ ghost use Rattle.session.specs.{Place.free_place, Centre.begins, Centre.begin_at
 ghost use Rattle.steps.specs.{Code.Lies.Lies, Code.Lies.started_by, Code.Lies.unnumbered, Called.Called, Called.called, Called.called_by};
 
 use crate::places::free_place;
-use crate::stored::take_centre;
+use crate::side::Side;
+use crate::stored::take;
 use crate::{Done, lies};
 use names::numbers;
 use record::{Body, Message};
@@ -57,16 +58,15 @@ fn issue(d: &mut [u8], start: u8, m: Message, lent: &[u8], room: &mut [u8]) -> R
     ensures { ◌≡◌ {A = Called} (called result d.new room.new)
         (called_by d.old room.old (begin_at (session_at d.old) (started_by start 0) m.op_id m lent.now (free_place (session_at d.old).centre))) }
 {
-    let i = free_place(d, lies::CENTRE_IDS);
-    if i == lies::PLACES {
+    let Some(i) = free_place(d, Side::Centre) else {
         return Err(Refusal::SixteenOpen);
-    }
+    };
     if faults::fault(m, lent) != 0 {
         return Err(Refusal::Invalid);
     }
     let id = m.op_id;
     let length = writer::put(m, lent, room)?;
-    take_centre(d, i, id, start);
+    take(d, Side::Centre, i, id, start);
     Ok(Done {
         happened: Happened::Issued,
         length,

@@ -9,6 +9,7 @@ mod lies;
 mod operate;
 mod places;
 mod reply;
+mod side;
 mod stored;
 
 ghost use Rattle.std.specs.Prelude.{◌≡◌, length};

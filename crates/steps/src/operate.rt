@@ -9,12 +9,19 @@ ghost use Rattle.steps.specs.Called.{Called, called, called_by};
 
 use crate::places::{free_place, place_of};
 use crate::reply::{bare, rsp};
+use crate::side::Side;
 use crate::{Done, lies, stored};
 use names::numbers;
 use refusal::Refusal;
 use session::Happened;
 
-pub fn in_open(d: &mut [u8], sign: u32, command: u8, id: i64, room: &mut [u8]) -> Result<Done, Refusal>
+pub fn in_open(
+    d: &mut [u8],
+    sign: u32,
+    command: u8,
+    id: i64,
+    room: &mut [u8],
+) -> Result<Done, Refusal>
     requires { Lies d.old }
     ensures { ◌≡◌ {A = Called} (called result d.new room.new)
         (called_by d.old room.old (in_open (session_at d.old) sign command id)) }
@@ -42,7 +49,14 @@ pub fn in_open(d: &mut [u8], sign: u32, command: u8, id: i64, room: &mut [u8]) -
 }
 
 // A station starts with an ID above the highest known and above 0 (18).
-fn starts(d: &mut [u8], start: u8, answer: u8, sign: u32, id: i64, room: &mut [u8]) -> Result<Done, Refusal>
+fn starts(
+    d: &mut [u8],
+    start: u8,
+    answer: u8,
+    sign: u32,
+    id: i64,
+    room: &mut [u8],
+) -> Result<Done, Refusal>
     requires { Lies d.old × (is_reply answer ≡ true) }
     ensures { ◌≡◌ {A = Called} (called result d.new room.new)
         (called_by d.old room.old (starts (session_at d.old) sign (started_by start answer) id)) }
@@ -54,17 +68,23 @@ fn starts(d: &mut [u8], start: u8, answer: u8, sign: u32, id: i64, room: &mut [u
 }
 
 // With a free place (19); the reply is the Rsp.
-fn start_at(d: &mut [u8], start: u8, answer: u8, sign: u32, id: i64, room: &mut [u8]) -> Result<Done, Refusal>
+fn start_at(
+    d: &mut [u8],
+    start: u8,
+    answer: u8,
+    sign: u32,
+    id: i64,
+    room: &mut [u8],
+) -> Result<Done, Refusal>
     requires { Lies d.old × (is_reply answer ≡ true) }
     ensures { ◌≡◌ {A = Called} (called result d.new room.new)
         (called_by d.old room.old (start_at (session_at d.old) sign (started_by start answer) id (free_place (session_at d.old).station))) }
 {
-    let i = free_place(d, lies::STATION_IDS);
-    if i == lies::PLACES {
+    let Some(i) = free_place(d, Side::Station) else {
         return Err(Refusal::SixteenOpen);
-    }
+    };
     let length = writer::reply(rsp(sign, answer, id), room)?;
-    stored::take_station(d, i, id, start);
+    stored::take(d, Side::Station, i, id, start);
     Ok(Done {
         happened: Happened::Started,
         length,
@@ -78,11 +98,10 @@ fn completes(d: &mut [u8], start: u8, id: i64) -> Result<Done, Refusal>
     ensures { (room : List ℕ) → ◌≡◌ {A = Called} (called result d.new room)
         (called_by d.old room (complete_at (session_at d.old) (entry_place id start (session_at d.old).station))) }
 {
-    let i = place_of(d, lies::STATION_IDS, lies::STATION_KINDS, id, start);
-    if i == lies::PLACES {
+    let Some(i) = place_of(d, Side::Station, id, start) else {
         return Err(Refusal::State);
-    }
-    stored::free_station(d, i);
+    };
+    stored::free(d, Side::Station, i);
     Ok(Done {
         happened: Happened::Completed,
         length: 0,
@@ -95,12 +114,11 @@ fn answers(d: &mut [u8], start: u8, complete: u8, id: i64, room: &mut [u8]) -> R
     ensures { ◌≡◌ {A = Called} (called result d.new room.new)
         (called_by d.old room.old (respond_at (session_at d.old) (ended_by start complete) id (entry_place id start (session_at d.old).centre))) }
 {
-    let i = place_of(d, lies::CENTRE_IDS, lies::CENTRE_KINDS, id, start);
-    if i == lies::PLACES {
+    let Some(i) = place_of(d, Side::Centre, id, start) else {
         return Err(Refusal::State);
-    }
+    };
     let length = writer::reply(bare(complete, id), room)?;
-    stored::free_centre(d, i);
+    stored::free(d, Side::Centre, i);
     Ok(Done {
         happened: Happened::Answered,
         length,

@@ -1,21 +1,14 @@
 use borrow.Author.Rules.{rules}
-use Rattle.steps.proofs.Branches.{start_full, start_unsent, start_sent}
+use Rattle.steps.proofs.Branches.{start_unsent, start_sent}
 use Rattle.steps.proofs.Replies.{replies}
-use Rattle.steps.proofs.Storing.{long}
 use Rattle.std.proofs.Common.{rules}
 use Rattle.steps.proofs.operate.start_at.Goals as goal
-
-pub free_place-i-requires : goal.free_place-i-requires
-free_place-i-requires c = search (long, rules)
-
-pub returns-then-i-eq-PLACES : goal.returns-then-i-eq-PLACES
-returns-then-i-eq-PLACES c = search (start_full, rules)
 
 pub reply-requires : goal.reply-requires
 reply-requires c = search (replies, rules)
 
 pub returns-in_err-length : goal.returns-in_err-length
-returns-in_err-length c = search (start_unsent, c.in_err-length.ensures, rules)
+returns-in_err-length c = search (start_unsent, c.in_err-length.ensures, c.in-Some.ensures.is, rules)
 
 pub returns : goal.returns
-returns c = search (start_sent, c.in_ok-length.ensures, rules)
+returns c = search (start_sent, c.in_ok-length.ensures, c.in-Some.ensures.is, rules)
