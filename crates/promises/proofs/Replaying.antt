@@ -264,7 +264,7 @@ module _ (h : Lends) (payload m e d : List ℕ) (c : Columns) (k : ℕ) (are : I
       session_is : (arrive_call h d g).session ≡ came.session
       session_is = ap (λ (x : Returned). x.session) call_is
 
-      arrival_is : answer_refusal (arrive_call h d g).answer ≡ came.answer.refusal
+      arrival_is : answer_refusal (arrive_call h d g).answer ≡ step_refusal came.answer
       arrival_is = ap (λ (x : Returned). answer_refusal x.answer) call_is ∙ arrival_refusal h d own there.lent
 
       refused_plays : (answer_refusal (arrive_call h d g).answer ≡ 0 → ⊥) → Plays h payload d c k (played (arrive_call h d g).session c no_reading)
