@@ -31,6 +31,7 @@ pub const SPARE: usize = 346;
 // How many operations each side may have open.
 pub const PLACES: usize = 16;
 
+// The states, as bytes: an enum would be read from and written to this byte of the C struct at each place that names one, and say no more.
 pub const WAITING: u8 = 0;
 
 pub const CONNECTING: u8 = 1;

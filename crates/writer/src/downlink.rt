@@ -74,8 +74,26 @@ fn weight(room: &mut [u8], at: usize, format: u8, prior: bool, prio: f64) -> usi
 fn wishes(room: &mut [u8], at: usize, x: DlDataQue) -> usize
     ensures { ◌≡◌ {A = Put} (put room.new result) (put_parts (wishes_parts x) (put room.old at)) }
 {
-    let a = pair::field(room, at, x.response_exp.here, b"\xABresponseExp", x.response_exp.value);
-    let b = pair::field(room, a, x.response_prio.here, b"\xACresponsePrio", x.response_prio.value);
-    let c = pair::field(room, b, x.dl_wind_req.here, b"\xA9dlWindReq", x.dl_wind_req.value);
+    let a = pair::field(
+        room,
+        at,
+        x.response_exp.here,
+        b"\xABresponseExp",
+        x.response_exp.value,
+    );
+    let b = pair::field(
+        room,
+        a,
+        x.response_prio.here,
+        b"\xACresponsePrio",
+        x.response_prio.value,
+    );
+    let c = pair::field(
+        room,
+        b,
+        x.dl_wind_req.here,
+        b"\xA9dlWindReq",
+        x.dl_wind_req.value,
+    );
     pair::field(room, c, x.exp_only.here, b"\xA7expOnly", x.exp_only.value)
 }

@@ -78,6 +78,7 @@ pub fn id(room: &mut [u8], at: usize, key: &[u8], x: message::MaybeId) -> usize
     field(room, at, x.here, key, x.value)
 }
 
+// Of lent bytes the first n are written, counters and data entries under a requires: so these are no `Value`, which is all of what is written.
 // The first n bytes of d, as an array of numbers.
 pub fn octets(room: &mut [u8], at: usize, key: &[u8], d: &[u8], n: u8) -> usize
     ensures { ◌≡◌ {A = Put} (put room.new result) (put_parts (pair_part true key.now (numbers_parts (take n d.now))) (put room.old at)) }
