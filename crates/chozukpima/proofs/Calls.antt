@@ -8,10 +8,10 @@ use Rattle.octets.specs.Choice.{either}
 use Rattle.record.specs.declared.{Message.Message, Told.Told}
 use Rattle.record.specs.Meant.{Answered as Meaning, Meant}
 use Rattle.record.proofs.Answers.{one_answer}
-use Rattle.writer.specs.declared.Written.{Written, TheVariants.Whole, TheVariants.Refused}
+use Rattle.std.specs.Prelude.{Result, Ok, Err}
+use Rattle.refusal.specs.{declared.Refusal.Refusal, Number.number_of}
 use Rattle.writer.specs.Write.{Sent, sent, written, write_refusal, length_of}
-use Rattle.steps.specs.declared.Answer.{Answer}
-use Rattle.steps.specs.Called.{Called, called, arrive_on, begin_on}
+use Rattle.steps.specs.Called.{Answer, Called, called, arrive_on, begin_on}
 use Rattle.layout.specs.{Image.message_size, Image.message_image, Taken.message_at}
 use Rattle.chozukpima.specs.Packed.{packed, refused_with}
 use Rattle.chozukpima.specs.Messages.{Filled, filled, told_into, got, ReadInto, put_by, write_returns}
@@ -43,19 +43,19 @@ module _ (p m d : List ℕ) (r : ℕ) where
         meant = λ _ b k. ap (λ x. got x lent) q ∙ ap (λ (x : Meaning). got (told_into x.told m) x.lent) (one_answer p d a b n k);
       }
 
-module _ (w : Written) (r k : ℕ) where
-  pub written_whole : w ≡ Whole k → r ≡ packed 0 0 k → r ≡ packed (write_refusal w) 0 (length_of w)
-  written_whole e p = p ∙ ap (λ x. packed (write_refusal x) 0 (length_of x)) (sym e)
+module _ (w : Result ℕ Refusal) (r : ℕ) where
+  pub written_whole : (k : ℕ) → w ≡ Ok k → r ≡ packed 0 0 k → r ≡ packed (write_refusal w) 0 (length_of w)
+  written_whole k e p = p ∙ ap (λ x. packed (write_refusal x) 0 (length_of x)) (sym e)
 
-  pub written_refused : w ≡ Refused k → r ≡ packed k 0 0 → r ≡ packed (write_refusal w) 0 (length_of w)
-  written_refused e p = p ∙ ap (λ x. packed (write_refusal x) 0 (length_of x)) (sym e)
+  pub written_refused : (k : Refusal) → w ≡ Err k → r ≡ packed (number_of k) 0 0 → r ≡ packed (write_refusal w) 0 (length_of w)
+  written_refused k e p = p ∙ ap (λ x. packed (write_refusal x) 0 (length_of x)) (sym e)
 
 module _ (m d room : List ℕ) (r : ℕ) where
   pub write_short : (length m ≡ message_size → ⊥) → r ≡ refused_with 15 → ◌≡◌ {A = Filled} (filled r room) (write_returns m d room)
   unfolding write_returns
   write_short h e = ap (λ n. filled n room) e ∙ sym (simp (ne_eqb (length m) message_size h))
 
-  pub write_whole : (x : Message) (w : Written) (after : List ℕ) → length m ≡ message_size → x ≡ message_at m → ◌≡◌ {A = Sent} (sent w after) (written x d room)
+  pub write_whole : (x : Message) (w : Result ℕ Refusal) (after : List ℕ) → length m ≡ message_size → x ≡ message_at m → ◌≡◌ {A = Sent} (sent w after) (written x d room)
       → r ≡ packed (write_refusal w) 0 (length_of w) → ◌≡◌ {A = Filled} (filled r after) (write_returns m d room)
   unfolding write_returns
   write_whole x w after l e p q = ap (λ n. filled n after) q ∙ ap put_by (p ∙ ap (λ y. written y d room) e) ∙ sym (simp (eq-eqb (length m) message_size l))

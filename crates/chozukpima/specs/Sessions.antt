@@ -2,13 +2,12 @@
 use Rattle.std.specs.Prelude.{ℕ, List}
 use lib.{Dec.eqb, ListN.length}
 use Rattle.octets.specs.Choice.{either}
-use Rattle.steps.specs.declared.Answer.{Answer}
-use Rattle.steps.specs.Called.{Called, arrive_on, begin_on}
+use Rattle.steps.specs.Called.{Answer, Called, step_refusal, step_happened, step_length, arrive_on, begin_on}
 use Rattle.layout.specs.{Image.message_size, Taken.message_at}
 use Rattle.chozukpima.specs.Packed.{packed, refused_with}
 
 abbrev pub step_answer : Answer → ℕ
-step_answer a = packed a.refusal a.happened a.length
+step_answer a = packed (step_refusal a) (step_happened a) (step_length a)
 
 -- an answer, and the session's bytes and the room afterwards
 pub record Returned : Type 0 where

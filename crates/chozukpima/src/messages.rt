@@ -7,7 +7,7 @@ ghost use Rattle.chozukpima.specs.{Code.Stands.Stands, Packed.packed};
 
 use crate::answer::{pack, refuse};
 use octets::refusals;
-use writer::Written;
+use refusal::Refusal;
 
 // A payload into a message and its data: how many elements it has; 3 to 15, with the place for 4 to 10. A message of another length, or too few
 // bytes for data, are 15 first.
@@ -45,11 +45,11 @@ pub fn chz_write(message: &[u8], lent: &[u8], room: &mut [u8]) -> u64
     written(writer::write(layout::message_in(message), lent, room))
 }
 
-fn written(w: Written) -> u64
+fn written(w: Result<usize, Refusal>) -> u64
     ensures { result ≡ packed (write_refusal w) 0 (length_of w) }
 {
     match w {
-        Written::Whole(n) => pack(0, 0, n),
-        Written::Refused(k) => refuse(k),
+        Ok(n) => pack(0, 0, n),
+        Err(r) => refuse(r.number()),
     }
 }

@@ -5,11 +5,16 @@ ghost use Rattle.chozukpima.specs.Sessions.{Returned, returned, step_answer, arr
 
 use crate::answer::{pack, refuse};
 use octets::refusals;
+use refusal::Refusal;
+use steps::Done;
 
-fn step_answer(a: steps::Answer) -> u64
+fn step_answer(a: Result<Done, Refusal>) -> u64
     ensures { result ≡ step_answer a }
 {
-    pack(a.refusal, a.happened, a.length)
+    match a {
+        Ok(done) => pack(0, done.happened.number(), done.length),
+        Err(r) => refuse(r.number()),
+    }
 }
 
 // A message arrives: what happened, and how many bytes of reply stand in the room; 15, then 17, 18, 16 or 19, 20.

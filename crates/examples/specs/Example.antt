@@ -1,6 +1,7 @@
 -- What an example says, one kind of row for each thing that examples speak of. No bytes are lent beside their records.
 use mathlib.Core.{Path.◌≡◌, List.List, List.[], List.◌∷◌, Option.some, Option.none}
-use Rattle.std.specs.Prelude.{ℕ, ◌≤◌}
+use Rattle.std.specs.Prelude.{ℕ, ◌≤◌, Result}
+use Rattle.refusal.specs.declared.Refusal.{Refusal}
 use lib.{Ieee.Float, Ieee.binary64, Ieee.to_bits, ListN.length, ListN.replicate}
 use Rattle.octets.specs.Bytes.{big_bytes}
 use Rattle.element.specs.Code.At.{leaf_at}
@@ -8,7 +9,6 @@ use Rattle.field.specs.{Kind.Kind, Kind.Value, Judge.judge}
 use Rattle.record.specs.declared.Message.{Message}
 use Rattle.record.specs.{Reading.Reading, Written.payload_for, Written.frame_for}
 use Rattle.record.specs.Meant.{answer_of, refuses, lent_size, Meant}
-use Rattle.writer.specs.declared.Written.{Written}
 use Rattle.writer.specs.Write.{written}
 
 pub data Example : Type 0 where
@@ -25,7 +25,7 @@ pub data Example : Type 0 where
   -- a record takes so many bytes, and so many with its frame
   takes : Message → ℕ → ℕ → Example
   -- writing a record to a room of so many bytes
-  writing : Message → ℕ → Written → Example
+  writing : Message → ℕ → Result ℕ Refusal → Example
 
 abbrev pub Holds : Example → Type 0
 Holds (size s n) = length s ≡ n

@@ -1,11 +1,11 @@
 -- Document 01, "Examples on each side": those marked *, all twelve, in its order, and beside them those of document 02's Q-1.
-use Rattle.std.specs.Prelude.{true, false, List, [], ◌∷◌, ◌++◌, ℕ, zero, suc}
+use Rattle.std.specs.Prelude.{true, false, List, [], ◌∷◌, ◌++◌, ℕ, zero, suc, Ok, Err}
 use lib.{IntN.pos, Ieee.Float, Ieee.fin, ListN.take, ListN.drop}
 use Rattle.names.specs.Names.{bytes}
 use Rattle.field.specs.Cell.{zero64, origin}
 use Rattle.message.specs.declared.MaybeReal.{MaybeReal}
 use Rattle.record.specs.declared.{Body.Body, Message.Message}
-use Rattle.writer.specs.declared.Written.TheVariants as Written
+use Rattle.refusal.specs.declared.Refusal.TheVariants.{RoomTooShort}
 use Rattle.examples.specs.Example.{Example}
 use Rattle.examples.specs.Example.Example.{size, read, refused, real, no_real, takes, writing}
 
@@ -108,6 +108,6 @@ starred =
     -- pingRsp 1 takes 23 bytes, 35 framed
     takes ping_rsp_1 23 35 ∷
     -- 34 bytes of room: 20
-    writing ping_rsp_1 34 (Written.Refused 20) ∷
-    writing ping_rsp_1 35 (Written.Whole 35) ∷
+    writing ping_rsp_1 34 (Err RoomTooShort) ∷
+    writing ping_rsp_1 35 (Ok 35) ∷
     []

@@ -22,6 +22,7 @@ use Rattle.session.specs.Run.{reached}
 use Rattle.session.proofs.Cases.{by_test, by_choice}
 use Rattle.steps.proofs.Kept.{own_refusal}
 use Rattle.live.specs.Live.{names_own, con_names}
+use Rattle.refusal.specs.declared.Refusal.TheVariants as refusal
 
 -- a session without its snScUuid and what the centre started
 abbrev pub plain : Session → Session
@@ -87,7 +88,7 @@ module _ (s : Session) where
   same_choice (some a) f g x y p q = p a
 
   waiting : (z : ℤ) (h g : Host) (c : Option Con) → (con_names c ≡ true → Quiet s)
-      → Leads (or_outcome c (λ x. takes_con s z x h) (λ _. Outcome.refused 17)) (or_outcome c (λ x. takes_con (plain s) z x g) (λ _. Outcome.refused 17))
+      → Leads (or_outcome c (λ x. takes_con s z x h) (λ _. Outcome.refused refusal.State)) (or_outcome c (λ x. takes_con (plain s) z x g) (λ _. Outcome.refused refusal.State))
   waiting z h g none q = (refl, λ k. k)
   waiting z h g (some x) q =
       same_test (same_id z (pos 0)) _ _ _ _

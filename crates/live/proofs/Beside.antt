@@ -10,7 +10,7 @@ use Rattle.octets.proofs.Ranges.{true_false}
 use Rattle.record.specs.declared.{UlData.UlData, Body.Body, Message.Message}
 use Rattle.record.specs.Fits.{fits}
 use Rattle.session.specs.{Session.Session, Arrive.Outcome, Arrive.con_in, Arrive.arrives, Centre.lost, Image.session_at}
-use Rattle.steps.specs.Called.{Called, host_of, arrive_on, begin_on, lost_session}
+use Rattle.steps.specs.Called.{step_refusal, Called, host_of, arrive_on, begin_on, lost_session}
 use Rattle.play.specs.Play.{Lends}
 use Rattle.live.specs.Live.{Lawful, con_names}
 use Rattle.live.proofs.Alike.{plain, Alike, Quiet, arrives_alike, same_refusal, lost_alike, lost_lost}
@@ -80,7 +80,7 @@ module _ (d e : List ℕ) (b : Beside false d e) (h g : Lends) (lawful : Lawful 
   two = arrive_makes e b.again.ready g other m lent fit
 
   -- an uplink is accepted at both or refused at both
-  pub arrive_refusal : (x : UlData) → m.body ≡ Body.UlData x → here.answer.refusal ≡ there.answer.refusal
+  pub arrive_refusal : (x : UlData) → m.body ≡ Body.UlData x → step_refusal here.answer ≡ step_refusal there.answer
   arrive_refusal x u = one.refusal ∙ same_refusal (session_at d) (session_at e) m lent _ _ b.alike x u ∙ sym two.refusal
 
   pub arrive_beside : (con_names (con_in m.body) ≡ true → Quiet (session_at d)) → Beside false here.session there.session

@@ -12,7 +12,7 @@ use Rattle.record.specs.declared.{UlData.UlData, Body.Body, Message.Message}
 use Rattle.record.specs.{Record.command_in, Fits.fits, Meant.Answered}
 use Rattle.session.specs.{Arrive.con_in, Image.session_at}
 use Rattle.meters.specs.Columns.{Columns}
-use Rattle.steps.specs.Called.{Called}
+use Rattle.steps.specs.Called.{step_refusal, Called}
 use Rattle.play.specs.Play.{Played, played, no_reading, Lends, before_arrival, arrival, credited, to_table, after_arrival, play_of}
 use Rattle.live.specs.Live.{Lawful, is_read, is_con, con_names, is_naming, has_started}
 use Rattle.live.proofs.{Alike.Quiet, Beside.Beside, Beside.before_beside, Beside.before_quiet, Beside.arrive_refusal, Beside.arrive_beside}
@@ -27,10 +27,10 @@ agree_as {p} {q} e x = subst (λ (b : Bool). Agree b p q) (sym e) x
 
 module _ (c : Columns) (k : ℕ) where
   -- the table takes no look at the session
-  uplink_agree : (u : UlData) (x y : Called) → x.answer.refusal ≡ y.answer.refusal → Beside false x.session y.session
+  uplink_agree : (u : UlData) (x y : Called) → step_refusal x.answer ≡ step_refusal y.answer → Beside false x.session y.session
       → Agree false (after_arrival c k (Body.UlData u) x) (after_arrival c k (Body.UlData u) y)
   unfolding after_arrival to_table credited
-  uplink_agree u x y e s = subst (λ (n : ℕ). Agree false (by (eqb n 0) x) (by (eqb y.answer.refusal 0) y)) (sym e) (go (eqb y.answer.refusal 0))
+  uplink_agree u x y e s = subst (λ (n : ℕ). Agree false (by (eqb n 0) x) (by (eqb (step_refusal y.answer) 0) y)) (sym e) (go (eqb (step_refusal y.answer) 0))
     where
       by : Bool → Called → Played
       by t a = either t (λ _. to_table a.session c k (Body.UlData u)) (λ _. played a.session c no_reading)
@@ -47,19 +47,19 @@ module _ (c : Columns) (k : ℕ) where
   others_agree false true d e s = record { sessions = s; table = refl; reading = refl }
   others_agree false false d e s = record { sessions = s; table = refl; reading = refl }
 
-  after_agree : (b : Body) (x y : Called) → ((u : UlData) → b ≡ Body.UlData u → x.answer.refusal ≡ y.answer.refusal) → Beside false x.session y.session
+  after_agree : (b : Body) (x y : Called) → ((u : UlData) → b ≡ Body.UlData u → step_refusal x.answer ≡ step_refusal y.answer) → Beside false x.session y.session
       → Agree false (after_arrival c k b x) (after_arrival c k b y)
   unfolding after_arrival to_table
   after_agree (Body.UlData u) x y e s = uplink_agree u x y (e u refl) s
-  after_agree (Body.Con u) x y e s = others_agree (eqb x.answer.refusal 0) (eqb y.answer.refusal 0) x.session y.session s
-  after_agree (Body.ConRsp u) x y e s = others_agree (eqb x.answer.refusal 0) (eqb y.answer.refusal 0) x.session y.session s
-  after_agree (Body.StatusRsp u) x y e s = others_agree (eqb x.answer.refusal 0) (eqb y.answer.refusal 0) x.session y.session s
-  after_agree (Body.Det u) x y e s = others_agree (eqb x.answer.refusal 0) (eqb y.answer.refusal 0) x.session y.session s
-  after_agree (Body.DetRsp u) x y e s = others_agree (eqb x.answer.refusal 0) (eqb y.answer.refusal 0) x.session y.session s
-  after_agree (Body.AttPrp u) x y e s = others_agree (eqb x.answer.refusal 0) (eqb y.answer.refusal 0) x.session y.session s
-  after_agree (Body.DetPrp u) x y e s = others_agree (eqb x.answer.refusal 0) (eqb y.answer.refusal 0) x.session y.session s
-  after_agree (Body.DlDataQue u) x y e s = others_agree (eqb x.answer.refusal 0) (eqb y.answer.refusal 0) x.session y.session s
-  after_agree (Body.Bare u) x y e s = others_agree (eqb x.answer.refusal 0) (eqb y.answer.refusal 0) x.session y.session s
+  after_agree (Body.Con u) x y e s = others_agree (eqb (step_refusal x.answer) 0) (eqb (step_refusal y.answer) 0) x.session y.session s
+  after_agree (Body.ConRsp u) x y e s = others_agree (eqb (step_refusal x.answer) 0) (eqb (step_refusal y.answer) 0) x.session y.session s
+  after_agree (Body.StatusRsp u) x y e s = others_agree (eqb (step_refusal x.answer) 0) (eqb (step_refusal y.answer) 0) x.session y.session s
+  after_agree (Body.Det u) x y e s = others_agree (eqb (step_refusal x.answer) 0) (eqb (step_refusal y.answer) 0) x.session y.session s
+  after_agree (Body.DetRsp u) x y e s = others_agree (eqb (step_refusal x.answer) 0) (eqb (step_refusal y.answer) 0) x.session y.session s
+  after_agree (Body.AttPrp u) x y e s = others_agree (eqb (step_refusal x.answer) 0) (eqb (step_refusal y.answer) 0) x.session y.session s
+  after_agree (Body.DetPrp u) x y e s = others_agree (eqb (step_refusal x.answer) 0) (eqb (step_refusal y.answer) 0) x.session y.session s
+  after_agree (Body.DlDataQue u) x y e s = others_agree (eqb (step_refusal x.answer) 0) (eqb (step_refusal y.answer) 0) x.session y.session s
+  after_agree (Body.Bare u) x y e s = others_agree (eqb (step_refusal x.answer) 0) (eqb (step_refusal y.answer) 0) x.session y.session s
 
   module _ (h g : Lends) (lawful : Lawful h) (other : Lawful g) (down : Bool) (d e : List ℕ) (s : Beside down d e) where
     abbrev con : Body → Bool

@@ -19,7 +19,8 @@ use Rattle.session.specs.{Session.Session, Session.Host, Arrive.Outcome, Arrive.
 use Rattle.session.specs.Image.{session_image, session_at, is_session}
 use Rattle.session.proofs.{Image.tested, Back.Held, Back.session_is, Back.session_back, Judged.id_fits}
 use Rattle.session.proofs.Holding.{Holds, held_in, arrival_held, begin_held, loss_held}
-use Rattle.steps.specs.Called.{Called, called, done_as, step_refuses, called_by, host_of, arrive_on, begin_on, lost_session}
+use Rattle.refusal.specs.declared.Refusal.TheVariants.{RoomTooShort}
+use Rattle.steps.specs.Called.{step_refusal, Called, called, done_as, step_refuses, called_by, host_of, arrive_on, begin_on, lost_session}
 use Rattle.steps.proofs.{Kept.own_refusal, Replying.Fitting, Replying.replies_fit}
 use Rattle.play.specs.Play.{Lends}
 use Rattle.live.specs.Live.{Lawful}
@@ -51,7 +52,7 @@ frame_short m d e = omega (arith, frame_long (payload_for m d), payload_short m 
 
 -- a call with the session s, in bytes, that is refused as the rule's outcome is and leaves its session
 pub record Makes (s : Session) (o : Outcome) (c : Called) : Type 0 where
-  pub refusal : c.answer.refusal ≡ own_refusal o
+  pub refusal : step_refusal c.answer ≡ own_refusal o
   pub ready : Ready c.session
   pub session : session_at c.session ≡ reached s o
 
@@ -67,7 +68,7 @@ module _ (d : List ℕ) (ready : Ready d) where
   by_rule room l (Outcome.replies w t m e) fit h =
       let f = frame_for m e in
       let sent = called (done_as w (length f)) (session_image t) (put_at room 0 f) in
-      subst (λ (b : Bool). Makes (session_at d) (Outcome.replies w t m e) (either b (λ _. sent) (λ _. step_refuses 20 d room)))
+      subst (λ (b : Bool). Makes (session_at d) (Outcome.replies w t m e) (either b (λ _. sent) (λ _. step_refuses RoomTooShort d room)))
       (sym (le-leb (length f) (length room) (omega (arith, frame_short m e fit))))
       (record { refusal = refl; ready = image_ready t h; session = session_back t h })
 
@@ -112,7 +113,7 @@ module _ (d : List ℕ) (ready : Ready d) where
   leaves_by room (Outcome.silent w t) h a = record { ready = image_ready t h; alike = ap plain (session_back t h) ∙ a }
   leaves_by room (Outcome.replies w t m e) h a = go (leb (length (frame_for m e)) (length room))
     where
-      go : (b : Bool) → Leaves d (either b (λ _. called (done_as w (length (frame_for m e))) (session_image t) (put_at room 0 (frame_for m e))) (λ _. step_refuses 20 d room))
+      go : (b : Bool) → Leaves d (either b (λ _. called (done_as w (length (frame_for m e))) (session_image t) (put_at room 0 (frame_for m e))) (λ _. step_refuses RoomTooShort d room))
       go true = record { ready = image_ready t h; alike = ap plain (session_back t h) ∙ a }
       go false = record { ready = ready; alike = refl }
 

@@ -7,8 +7,8 @@ use Rattle.octets.specs.Choice.{either}
 use Rattle.names.specs.Names.{bytes, commands, command_of, place_in}
 use Rattle.record.specs.declared.{Body.Body, Message.Message}
 use Rattle.record.specs.Record.{command_in}
-use Rattle.steps.specs.declared.Answer.{Answer}
-use Rattle.steps.specs.Called.{Called, called, arrive_on, lost_session}
+use Rattle.std.specs.Prelude.{is_ok}
+use Rattle.steps.specs.Called.{Answer, Called, called, arrive_on, lost_session}
 use Rattle.play.specs.Play.{before_arrival, arrival, zeros, replaying}
 
 con_first : command_of (bytes "con") ≡ 0
@@ -41,7 +41,7 @@ module _ (d e f room lent : List ℕ) (m : Message) (a : Answer) (q : e ≡ befo
   pub arrival_session : f ≡ (arrival replaying d m lent).session
   arrival_session = ap (λ (x : Called). x.session) as_arrival
 
-  pub arrival_refusal : a.refusal ≡ (arrival replaying d m lent).answer.refusal
-  arrival_refusal = ap (λ (x : Called). x.answer.refusal) as_arrival
+  pub arrival_accepted : is_ok a ≡ is_ok (arrival replaying d m lent).answer
+  arrival_accepted = ap (λ (x : Called). is_ok x.answer) as_arrival
 
-pub ruleset arriving = (arrival_session, arrival_refusal)
+pub ruleset arriving = (arrival_session, arrival_accepted)

@@ -8,7 +8,7 @@ use Rattle.record.specs.declared.{Body.Body, Message.Message}
 use Rattle.record.specs.{Record.command_in, Meant.Answered, Meant.lent_size, Meant.Meant}
 use Rattle.meters.specs.declared.Credit.{Credit, TheVariants.New, TheVariants.Copy, TheVariants.Refused}
 use Rattle.meters.specs.Columns.{Columns, uplink_on}
-use Rattle.steps.specs.Called.{Called, arrive_on, lost_session}
+use Rattle.steps.specs.Called.{Called, step_refusal, arrive_on, lost_session}
 use Rattle.play.specs.declared.Credited.{Credited}
 
 -- a station's session and the table afterwards, and the reading that was new there
@@ -71,7 +71,7 @@ to_table d c station (Body.Bare n) = played d c no_reading
 
 -- a message that the session refuses has no part in the table
 unfoldable pub after_arrival : Columns → ℕ → Body → Called → Played
-after_arrival c station b a = either (eqb a.answer.refusal 0) (λ _. to_table a.session c station b) (λ _. played a.session c no_reading)
+after_arrival c station b a = either (eqb (step_refusal a.answer) 0) (λ _. to_table a.session c station b) (λ _. played a.session c no_reading)
 
 -- the live calls with a payload: a payload that is refused does nothing
 unfoldable pub play_of : Lends → List ℕ → Columns → ℕ → Answered → Played

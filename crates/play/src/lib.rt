@@ -2,7 +2,7 @@
 #![tactic(auto)]
 
 ghost use mathlib.Core.{Path.◌≡◌, List.List};
-ghost use Rattle.std.specs.Prelude.{ℕ, ◌*◌, ◌<◌, length};
+ghost use Rattle.std.specs.Prelude.{ℕ, ◌*◌, ◌<◌, length, is_ok};
 ghost use Rattle.session.specs.Image.{session_size};
 ghost use Rattle.meters.specs.Columns.{columns};
 ghost use Rattle.play.specs.Play.{Played, played, no_reading, new_reading, before_arrival, replaying, arrival, credited, to_table, Plays};
@@ -43,8 +43,8 @@ pub fn play(
     }
     let m = told.message;
     let b = m.body;
-    let refusal = arrive(session, m, &lent);
-    if refusal != 0 {
+    let accepted = accepts(session, m, &lent);
+    if !accepted {
         return nothing();
     }
     to_table(used, euis, shorts, lasts, heards, station, b)
@@ -106,22 +106,22 @@ fn before_arrival(session: &mut [u8], b: Body)
     ensures { session.new ≡ before_arrival b session.old }
 {
     if record::command_in(b) == names::numbers::CON {
-        steps::lose(session);
+        // What is no session's stays, and is refused as the con arrives.
+        let _ = steps::lose(session);
     }
 }
 
-// The session's answer to a message: its refusal, 0 where it accepts it. The reply is thrown away.
-fn arrive(session: &mut [u8], m: Message, lent: &[u8]) -> u8
+// Whether the session accepts a message. The reply is thrown away.
+fn accepts(session: &mut [u8], m: Message, lent: &[u8]) -> bool
     ensures session { session.new ≡ (arrival replaying session.old m lent.now).session }
-    ensures refusal { result ≡ (arrival replaying session.old m lent.now).answer.refusal }
+    ensures accepted { result ≡ is_ok (arrival replaying session.old m lent.now).answer }
 {
     let b = m.body;
     before_arrival(session, b);
     let uuid = [0u8; 16];
     let sign = [0u8; 4];
     let mut room = [0u8; 1909];
-    let a = steps::arrive(session, m, lent, 0, &uuid, &sign, &mut room);
-    a.refusal
+    steps::arrive(session, m, lent, 0, &uuid, &sign, &mut room).is_ok()
 }
 
 // An accepted message: a ulData goes to the table.
@@ -138,16 +138,8 @@ fn to_table(
         (to_table d (columns used.now euis.now shorts.now lasts.old heards.old) station b) }
 {
     match b {
-        Body::Con(_) => nothing(),
-        Body::ConRsp(_) => nothing(),
-        Body::StatusRsp(_) => nothing(),
-        Body::Det(_) => nothing(),
-        Body::DetRsp(_) => nothing(),
-        Body::AttPrp(_) => nothing(),
-        Body::DetPrp(_) => nothing(),
         Body::UlData(x) => credit(used, euis, shorts, lasts, heards, station, x),
-        Body::DlDataQue(_) => nothing(),
-        Body::Bare(_) => nothing(),
+        _ => nothing(),
     }
 }
 

@@ -21,7 +21,7 @@ use Rattle.record.specs.declared.Message.{Message}
 use Rattle.record.specs.{Record.command_in, Fits.fits, Written.frame_for}
 use Rattle.record.specs.Says.{tested, is_named, body_sayings, sayings_of}
 use Rattle.record.proofs.{Commands.command, Commands.begins as begins-so, Faultless.each_fits, Faultless.all_fit}
-use Rattle.writer.specs.declared.Written.TheVariants.{Whole, Refused}
+use Rattle.std.specs.Prelude.{Ok, Err}
 use Rattle.writer.specs.Write.{sent, framed, written, write_refusal}
 use Rattle.session.specs.{Session.State, Session.Session, Session.Host, Session.State.Waiting, Session.State.Connecting, Session.State.Open}
 use Rattle.session.specs.{Place.same_id, Place.free_place, Place.entry_place}
@@ -30,7 +30,8 @@ use Rattle.session.specs.Arrive.{Outcome, is_below, highest_of, lowest_of, resum
 use Rattle.session.specs.Centre.{one_below, last_id, under_id, begin_at, begins, kind_begins, if_open, centre_begins}
 use Rattle.session.specs.Image.{lowest_place, word_at, session_at, is_session}
 use Rattle.session.proofs.Cases.{by_test, by_result, by_choice, by_con}
-use Rattle.steps.specs.Called.{Called, called_by, host_of, arrive_on, begin_on}
+use Rattle.refusal.specs.declared.Refusal.TheVariants.{Invalid, RoomTooShort}
+use Rattle.steps.specs.Called.{step_refusal, Called, called_by, host_of, arrive_on, begin_on}
 use Rattle.steps.proofs.Kept.{own_refusal, own_or_20}
 use Rattle.layout.specs.{Image.message_size, Taken.message_at}
 use Rattle.layout.proofs.Holds.{signed_small}
@@ -53,24 +54,24 @@ framed_other : (f room : List ℕ) → T (is_other (write_refusal (framed f room
 unfolding framed
 framed_other f room = go (leb (length f) (length room))
   where
-    go : (b : Bool) → T (is_other (write_refusal (either b (λ _. sent (Whole (length f)) (put_at room 0 f)) (λ _. sent (Refused 20) room)).answer))
+    go : (b : Bool) → T (is_other (write_refusal (either b (λ _. sent (Ok (length f)) (put_at room 0 f)) (λ _. sent (Err RoomTooShort) room)).answer))
     go true = tt
     go false = tt
 
 written_other : (m : Message) (d room : List ℕ) → fits m d ≡ true → T (is_other (write_refusal (written m d room).answer))
 unfolding written
 written_other m d room e =
-    subst (λ (b : Bool). T (is_other (write_refusal (either b (λ _. framed (frame_for m d) room) (λ _. sent (Refused 15) room)).answer))) (sym e)
+    subst (λ (b : Bool). T (is_other (write_refusal (either b (λ _. framed (frame_for m d) room) (λ _. sent (Err Invalid) room)).answer))) (sym e)
     (framed_other (frame_for m d) room)
 
 -- a step's own refusal
 abbrev pub Other : Outcome → Type 0
 Other o = T (is_other (own_refusal o))
 
-called_other : (d room : List ℕ) (o : Outcome) → Other o → T (is_other (called_by d room o).answer.refusal)
+called_other : (d room : List ℕ) (o : Outcome) → Other o → T (is_other (step_refusal (called_by d room o).answer))
 called_other d room o t = go (own_or_20 d room o)
   where
-    go : ((called_by d room o).answer.refusal ≡ own_refusal o) ⊎ ((called_by d room o).answer.refusal ≡ 20) → T (is_other (called_by d room o).answer.refusal)
+    go : ((step_refusal (called_by d room o).answer) ≡ own_refusal o) ⊎ ((step_refusal (called_by d room o).answer) ≡ 20) → T (is_other (step_refusal (called_by d room o).answer))
     go (inl e) = subst (λ (n : ℕ). T (is_other n)) (sym e) t
     go (inr e) = subst (λ (n : ℕ). T (is_other n)) (sym e) tt
 
@@ -117,7 +118,7 @@ module _ (s : Session) (m : Message) (h : Host) where
 
   arrives_other : (d : List ℕ) → fits m d ≡ true → Other (arrives s m d h)
   unfolding arrives
-  arrives_other d e = subst (λ (b : Bool). Other (either b (λ _. in_state s.state s m h) (λ _. Outcome.refused 15))) (sym e) (in_state_lem s.state)
+  arrives_other d e = subst (λ (b : Bool). Other (either b (λ _. in_state s.state s m h) (λ _. Outcome.refused Invalid))) (sym e) (in_state_lem s.state)
 
 -- a record that fits does so under another ID: no key behind opId is opId
 abbrev is_apart : List Field → Bool

@@ -15,7 +15,8 @@ use Rattle.record.specs.Fits.{fits}
 use Rattle.session.specs.{Session.Session, Session.Host, Image.session_at, Image.is_session}
 use Rattle.session.specs.Arrive.{Outcome, in_state, arrives}
 use Rattle.session.proofs.Cases.{by_test}
-use Rattle.steps.specs.Called.{called_by, step_refuses, host_of, arrive_on}
+use Rattle.refusal.specs.declared.Refusal.TheVariants.{Invalid}
+use Rattle.steps.specs.Called.{step_refusal, called_by, step_refuses, host_of, arrive_on}
 use Rattle.steps.proofs.Kept.{own_refusal, own_or_20}
 use Rattle.meters.specs.declared.{Row.Row, Heard.Heard, Credit.Credit}
 use Rattle.meters.specs.Answers.{credit_refusal_of}
@@ -45,24 +46,24 @@ arrives_small : (s : Session) (m : Message) (h : Host) (d : List ℕ) → Own (a
 unfolding arrives
 arrives_small s m h d = by_test Own (fits m d) _ _ (own (in_state s.state s m h) (in_state_lem s m h s.state)) (lit< tt)
 
-called_small : (d room : List ℕ) (o : Outcome) → Own o → (called_by d room o).answer.refusal < 256
+called_small : (d room : List ℕ) (o : Outcome) → Own o → (step_refusal (called_by d room o).answer) < 256
 called_small d room o t = go (own_or_20 d room o)
   where
-    go : ((called_by d room o).answer.refusal ≡ own_refusal o) ⊎ ((called_by d room o).answer.refusal ≡ 20) → (called_by d room o).answer.refusal < 256
+    go : ((step_refusal (called_by d room o).answer) ≡ own_refusal o) ⊎ ((step_refusal (called_by d room o).answer) ≡ 20) → (step_refusal (called_by d room o).answer) < 256
     go (inl e) = subst (λ (n : ℕ). n < 256) (sym e) t
     go (inr e) = subst (λ (n : ℕ). n < 256) (sym e) (lit< tt)
 
-pub arrival_small : (d : List ℕ) (m : Message) (lent : List ℕ) (e : ℕ) (u g room : List ℕ) → (arrive_on d m lent e u g room).answer.refusal < 256
+pub arrival_small : (d : List ℕ) (m : Message) (lent : List ℕ) (e : ℕ) (u g room : List ℕ) → step_refusal (arrive_on d m lent e u g room).answer < 256
 unfolding arrive_on
 arrival_small d m lent e u g room = go (is_session d)
   where
     o : Outcome
-    o = either (eqb (length u) 16 && eqb (length g) 4) (λ _. arrives (session_at d) m lent (host_of e u g)) (λ _. Outcome.refused 15)
+    o = either (eqb (length u) 16 && eqb (length g) 4) (λ _. arrives (session_at d) m lent (host_of e u g)) (λ _. Outcome.refused Invalid)
 
     small : Own o
     small = by_test Own (eqb (length u) 16 && eqb (length g) 4) _ _ (arrives_small (session_at d) m (host_of e u g) lent) (lit< tt)
 
-    go : (b : Bool) → (either b (λ _. called_by d room o) (λ _. step_refuses 15 d room)).answer.refusal < 256
+    go : (b : Bool) → step_refusal (either b (λ _. called_by d room o) (λ _. step_refuses Invalid d room)).answer < 256
     go true = called_small d room o small
     go false = lit< tt
 

@@ -18,7 +18,7 @@ use Rattle.record.specs.{Record.command_in, Says.is_bare, Says.is_named, Fits.fi
 use Rattle.record.specs.Meant.{Answered, answer_of, lent_size, Meant}
 use Rattle.record.proofs.{Typed.Typed, Answered.answer_meant, Answered.broken_told, Answers.one_answer, Answers.read_writes}
 use Rattle.session.specs.{Arrive.arrives}
-use Rattle.steps.specs.Called.{Called, arrive_on}
+use Rattle.steps.specs.Called.{step_refusal, Called, arrive_on}
 use Rattle.meters.specs.declared.Credit.{Credit, TheVariants.New, TheVariants.Copy, TheVariants.Refused as Stale}
 use Rattle.meters.specs.Answers.{credit_refusal_of}
 use Rattle.meters.specs.Columns.{Columns, Done, uplink_on}
@@ -164,13 +164,13 @@ module _ (c : Columns) (k : ℕ) where
   passes d (Body.DlDataQue x) n = refl
   passes d (Body.Bare i) n = refl
 
-  after_refused : (b : Body) (a : Called) → (a.answer.refusal ≡ 0 → ⊥) → played a.session c no_reading ≡ after_arrival c k b a
+  after_refused : (b : Body) (a : Called) → (step_refusal a.answer ≡ 0 → ⊥) → played a.session c no_reading ≡ after_arrival c k b a
   unfolding after_arrival
-  after_refused b a n = simp (ne_eqb a.answer.refusal 0 n) refl
+  after_refused b a n = simp (ne_eqb (step_refusal a.answer) 0 n) refl
 
-  after_accepted : (b : Body) (a : Called) → a.answer.refusal ≡ 0 → to_table a.session c k b ≡ after_arrival c k b a
+  after_accepted : (b : Body) (a : Called) → step_refusal a.answer ≡ 0 → to_table a.session c k b ≡ after_arrival c k b a
   unfolding after_arrival
-  after_accepted b a z = simp (eq-eqb a.answer.refusal 0 z) refl
+  after_accepted b a z = simp (eq-eqb (step_refusal a.answer) 0 z) refl
 
   module _ (h : Lends) (d : List ℕ) (a : Answered) where
     play_unread : (a.told.refusal ≡ 0 → ⊥) → played d c no_reading ≡ play_of h d c k a
@@ -195,7 +195,7 @@ module _ (h : Lends) (d : List ℕ) where
   unfolding arrive_returns arrival before_arrival
   arrives_by m x l = simp (eq-eqb (length m) message_size l) refl
 
-  arrival_refusal : (m : Message) (x : List ℕ) → answer_refusal (by (arrival h d m x)).answer ≡ (arrival h d m x).answer.refusal
+  arrival_refusal : (m : Message) (x : List ℕ) → answer_refusal (by (arrival h d m x)).answer ≡ step_refusal (arrival h d m x).answer
   unfolding arrival
   arrival_refusal m x = refusal_back _ _ _ (arrival_small (before_arrival m.body d) m x h.sc_eui h.uuid h.sign h.room)
 
@@ -264,7 +264,7 @@ module _ (h : Lends) (payload m e d : List ℕ) (c : Columns) (k : ℕ) (are : I
       session_is : (arrive_call h d g).session ≡ came.session
       session_is = ap (λ (x : Returned). x.session) call_is
 
-      arrival_is : answer_refusal (arrive_call h d g).answer ≡ came.answer.refusal
+      arrival_is : answer_refusal (arrive_call h d g).answer ≡ step_refusal came.answer
       arrival_is = ap (λ (x : Returned). answer_refusal x.answer) call_is ∙ arrival_refusal h d own there.lent
 
       refused_plays : (answer_refusal (arrive_call h d g).answer ≡ 0 → ⊥) → Plays h payload d c k (played (arrive_call h d g).session c no_reading)

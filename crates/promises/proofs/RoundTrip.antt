@@ -22,7 +22,8 @@ use Rattle.record.proofs.{Typed.Typed, Payloads.payload_some, Payloads.payload_s
 use Rattle.reading.specs.declared.Unframed.{Unframed}
 use Rattle.reading.specs.Framed.{answer_in, MeantFramed}
 use Rattle.reading.proofs.Framing.{whole_told}
-use Rattle.writer.specs.declared.Written.TheVariants.{Whole, Refused}
+use Rattle.std.specs.Prelude.{Result, Ok, Err}
+use Rattle.refusal.specs.declared.Refusal.{Refusal, TheVariants.Invalid, TheVariants.RoomTooShort}
 use Rattle.writer.specs.Write.{Sent, sent, framed, written}
 use Rattle.writer.proofs.Payloads.{fits_named}
 use Rattle.layout.specs.{Image.message_size, Taken.message_at}
@@ -40,7 +41,7 @@ module _ (m : Message) (d room : List ℕ) (fit : fits m d ≡ true) (enough : l
   abbrev rest : List ℕ
   rest = drop (0 + length (frame_for m d)) room
 
-  stands : written m d room ≡ sent (Whole (length (frame_for m d))) (put_at room 0 (frame_for m d))
+  stands : written m d room ≡ sent (Ok (length (frame_for m d))) (put_at room 0 (frame_for m d))
   unfolding written framed
   stands = rw (fit, le-leb (length (frame_for m d)) (length room) enough)
 
@@ -71,31 +72,31 @@ record Passed (m : Message) (d room : List ℕ) : Type 0 where
 
 module _ (m : Message) (d room : List ℕ) where
   -- by the two tests of a written frame
-  by_tests : (P : Sent → Type 0) → P (written m d room) → (P (sent (Refused 15) room) → ⊥) → (P (sent (Refused 20) room) → ⊥) → Passed m d room
+  by_tests : (P : Sent → Type 0) → P (written m d room) → (P (sent (Err Invalid) room) → ⊥) → (P (sent (Err RoomTooShort) room) → ⊥) → Passed m d room
   unfolding written framed
   by_tests P p q r = go (fits m d) refl (leb (length (frame_for m d)) (length room)) refl p
     where
       go : (a : Bool) → fits m d ≡ a → (b : Bool) → leb (length (frame_for m d)) (length room) ≡ b
-          → P (either a (λ _. either b (λ _. sent (Whole (length (frame_for m d))) (put_at room 0 (frame_for m d))) (λ _. sent (Refused 20) room)) (λ _. sent (Refused 15) room))
+          → P (either a (λ _. either b (λ _. sent (Ok (length (frame_for m d))) (put_at room 0 (frame_for m d))) (λ _. sent (Err RoomTooShort) room)) (λ _. sent (Err Invalid) room))
           → Passed m d room
       go true e true f p = record { fit = e; enough = leb-true (length (frame_for m d)) (length room) f }
       go true e false f p = absurd (r p)
       go false e b f p = absurd (q p)
 
-refused_whole : (k n : ℕ) → Refused k ≡ Whole n → ⊥
+refused_whole : (k : Refusal) (n : ℕ) → ◌≡◌ {A = Result ℕ Refusal} (Err k) (Ok n) → ⊥
 refused_whole k n e = let z : ◌≡◌ {A = ℕ} 0 1 = cc in omega arith
 
 -- what is written is read as the record that was written
-pub written_read_back : (m : Message) (d room buffer : List ℕ) (n : ℕ) → Typed m → (written m d room).answer ≡ Whole n → lent_size ≤ length buffer
+pub written_read_back : (m : Message) (d room buffer : List ℕ) (n : ℕ) → Typed m → (written m d room).answer ≡ Ok n → lent_size ≤ length buffer
     → (r : Unframed) (e : List ℕ) → MeantFramed (written m d room).room buffer r e
     → (r.used ≡ n) × (answer_in r e ≡ answer_of (count_of (tree_for m d)) buffer (Reading.reads m (lent_of m d)))
 written_read_back m d room buffer n t a l r e meant =
-    let p = by_tests m d room (λ (s : Sent). s.answer ≡ Whole n) a (refused_whole 15 n) (refused_whole 20 n) in
+    let p = by_tests m d room (λ (s : Sent). s.answer ≡ Ok n) a (refused_whole Invalid n) (refused_whole RoomTooShort n) in
     let i = p.fit in
     let j = p.enough in
     let f = frame_for m d in
     let s = stands m d room i j in
-    let w : Whole (length f) ≡ Whole n = sym (ap (λ (x : Sent). x.answer) s) ∙ a in
+    let w : Ok (length f) ≡ Ok n = sym (ap (λ (x : Sent). x.answer) s) ∙ a in
     let size : length f ≡ n = cc in
     let k : MeantFramed (put_at room 0 f) buffer r e = subst (λ (x : Sent). MeantFramed x.room buffer r e) s meant in
     let told = whole_told (put_at room 0 f) buffer (length (payload_for m d)) (whole m d room i j) r e k in (

@@ -17,6 +17,7 @@ use Rattle.session.specs.Kinds.{Operation, station_starts, centre_starts, operat
 use Rattle.session.specs.Arrive.{Outcome, is_below, highest_of, lowest_of, resumes, starts, start_at, complete_at, respond_at, in_waiting, in_connecting, in_open, in_state, arrives}
 use Rattle.session.specs.Centre.{one_below, last_id, under_id, begin_at, kind_begins, if_open, centre_begins, lost_in, lost}
 use Rattle.session.specs.Run.{Event, reached, after, happened_of, loss_of, happened_in, station_after, centre_after, after_all, count_all}
+use Rattle.session.specs.Happened.{happened_number}
 use Rattle.session.proofs.Cases.{by_test, by_result, by_choice, by_con}
 use Rattle.session.proofs.Entries.{frees_one, takes_one}
 
@@ -27,8 +28,8 @@ pub record Counted (s : Session) (w : ℕ) (t : Session) : Type 0 where
 
 abbrev Counts : Session → Outcome → Type 0
 Counts s (Outcome.refused n) = Unit {0}
-Counts s (Outcome.silent w t) = Counted s w t
-Counts s (Outcome.replies w t m d) = Counted s w t
+Counts s (Outcome.silent w t) = Counted s (happened_number w) t
+Counts s (Outcome.replies w t m d) = Counted s (happened_number w) t
 
 -- an ID above the highest, and one below the lowest, is not 0
 above : (h z : ℤ) → is_below (either (is_below h (pos 0)) (λ _. pos 0) (λ _. h)) z ≡ true → same_id z (pos 0) ≡ false
@@ -113,7 +114,7 @@ reached_counts s (Outcome.refused n) c = record { station = refl; centre = refl 
 reached_counts s (Outcome.silent w t) c = c
 reached_counts s (Outcome.replies w t m d) c = c
 
-loss_counts : (s : Session) (x : State) → Counted s (loss_of x) (lost_in x s)
+loss_counts : (s : Session) (x : State) → Counted s (happened_number (loss_of x)) (lost_in x s)
 loss_counts s Waiting = record { station = refl; centre = refl }
 loss_counts s Connecting = record { station = refl; centre = refl }
 loss_counts s Open = record { station = refl; centre = refl }

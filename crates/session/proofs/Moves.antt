@@ -15,6 +15,7 @@ use Rattle.session.specs.{Kinds.Operation, Centre.stored, Centre.lost_in, Centre
 use Rattle.session.specs.Arrive.{Outcome, resumes, resumed, begun, or_outcome, in_waiting, opened, in_connecting, with_station, with_centre, complete_at, respond_at}
 use Rattle.session.specs.Run.{Event, reached, after, has_begun, begins_anew, Beyond, latest, Ordered}
 use Rattle.session.proofs.Cases.{by_test, by_choice, by_con}
+use Rattle.refusal.specs.declared.Refusal.TheVariants as refusal
 
 -- a number of a session that begins with 0, and that resuming, opening, freeing an entry and losing the connection leave as it is
 pub record Steady (f : Session → ℤ) : Type 0 where
@@ -43,7 +44,7 @@ module _ (f : Session → ℤ) (S : Steady f) (s : Session) where
   abbrev pub Waited : Outcome → Type 0
   Waited o = ((has_begun o ≡ true) × (f (reached s o) ≡ pos 0)) ⊎ ((has_begun o ≡ false) × Keeps o)
 
-  pub waited : (m : Message) (d : List ℕ) (h : Host) → Waited (either (fits m d) (λ _. in_waiting s m h) (λ _. Outcome.refused 15))
+  pub waited : (m : Message) (d : List ℕ) (h : Host) → Waited (either (fits m d) (λ _. in_waiting s m h) (λ _. Outcome.refused refusal.Invalid))
   unfolding in_waiting
   waited m d h =
       by_test Waited (fits m d) _ _
@@ -66,7 +67,7 @@ module _ (f : Session → ℤ) (S : Steady f) (s : Session) where
 
   -- a Cmp, a Rsp, and what is neither
   pub ending_keeps : (z : ℤ) (c r : Option Operation)
-      → Keeps (or_outcome c (λ o. complete_at s (entry_place z o.start s.station)) (λ _. or_outcome r (λ o. respond_at s o z (entry_place z o.start s.centre)) (λ _. Outcome.refused 17)))
+      → Keeps (or_outcome c (λ o. complete_at s (entry_place z o.start s.station)) (λ _. or_outcome r (λ o. respond_at s o z (entry_place z o.start s.centre)) (λ _. Outcome.refused refusal.State)))
   ending_keeps z c r =
       by_choice Keeps c _ _ (λ o. completes (entry_place z o.start s.station))
       (by_choice Keeps r _ _ (λ o. responds o z (entry_place z o.start s.centre)) refl)

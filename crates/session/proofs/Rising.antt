@@ -18,6 +18,7 @@ use Rattle.session.specs.Centre.{one_below, last_id, under_id, begin_at, kind_be
 use Rattle.session.specs.Run.{Event, reached, after, if_done, while_open, if_start, accepted_in, issued_in, is_waiting, has_begun, begins_anew, Rising, Falling}
 use Rattle.session.proofs.{Cases.by_test, Cases.by_result, Cases.by_choice, Moves.Moves.kept, Moves.Moves.moved, Moves.Goes.on}
 use Rattle.session.proofs.Moves.{Steady, Keeps, Moves, Goes, lost_keeps, waited, connecting_keeps, ending_keeps, from_waited, ordered}
+use Rattle.refusal.specs.declared.Refusal.TheVariants as refusal
 
 highest_steady : Steady highest_of
 highest_steady = record { beginning = λ h x. refl; resuming = λ s. refl; opening = λ s. refl; storing = λ s. refl; completing = λ s t. refl; responding = λ s t. refl }
@@ -58,7 +59,7 @@ module _ (s : Session) (m : Message) (d : List ℕ) (h : Host) where
   unfit Open (some o) = refl
 
   abbrev judged : State → Bool → Outcome
-  judged x b = either b (λ _. in_state x s m h) (λ _. Outcome.refused 15)
+  judged x b = either b (λ _. in_state x s m h) (λ _. Outcome.refused refusal.Invalid)
 
   abbrev accepted : State → Bool → Option ℤ
   accepted x b = while_open x (if_start (operation_by (λ o. o.start) station_starts (command_in m.body)) (if_done (judged x b) m.op_id))

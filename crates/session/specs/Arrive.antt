@@ -10,13 +10,16 @@ use Rattle.session.specs.Session.{State, Entry, Session, Host}
 use Rattle.session.specs.Session.State.{Waiting, Connecting, Open}
 use Rattle.session.specs.Place.{same_id, free_place, entry_place, taken, freed, all_free}
 use Rattle.session.specs.Kinds.{Operation, station_starts, centre_starts, operation_by}
-use Rattle.session.specs.Happened.{is_begun, is_resumed, is_opened, is_started, is_completed, is_answered}
+use Rattle.session.specs.declared.Happened.{Happened}
+use Rattle.refusal.specs.declared.Refusal.{Refusal}
+use Rattle.refusal.specs.declared.Refusal.TheVariants as refusal
+use Rattle.session.specs.declared.Happened.TheVariants as happened
 
 -- a refusal; or what happened, the session after the step, and the message that is to be sent with the bytes that are lent beside it
 pub data Outcome : Type 0 where
-  refused : ℕ → Outcome
-  silent : ℕ → Session → Outcome
-  replies : ℕ → Session → Message → List ℕ → Outcome
+  refused : Refusal → Outcome
+  silent : Happened → Session → Outcome
+  replies : Happened → Session → Message → List ℕ → Outcome
 
 -- a is below b
 abbrev pub is_below : ℤ → ℤ → Bool
@@ -75,8 +78,8 @@ begun h x = begun_with x.bs_eui (sixteen_bytes x.sn_bs_uuid) h.uuid
 abbrev pub connects : Session → Con → Host → Outcome
 connects s x h =
     either (resumes s x)
-    (λ _. Outcome.replies is_resumed (resumed s) (con_rsp_with h.sc_eui true (sixteen_of s.sn_sc_uuid)) [])
-    (λ _. Outcome.replies is_begun (begun h x) (con_rsp_with h.sc_eui false (sixteen_of h.uuid)) [])
+    (λ _. Outcome.replies happened.Resumed (resumed s) (con_rsp_with h.sc_eui true (sixteen_of s.sn_sc_uuid)) [])
+    (λ _. Outcome.replies happened.Begun (begun h x) (con_rsp_with h.sc_eui false (sixteen_of h.uuid)) [])
 
 abbrev pub con_in : Body → Option Con
 con_in (Body.Con x) = some x
@@ -98,18 +101,18 @@ or_outcome (some a) f g = f a
 abbrev pub takes_con : Session → ℤ → Con → Host → Outcome
 takes_con s z x h =
     either (same_id z (pos 0))
-    (λ _. either (eqb x.version.major 1 && eqb x.version.minor 0) (λ _. connects s x h) (λ _. Outcome.refused 16))
-    (λ _. Outcome.refused 18)
+    (λ _. either (eqb x.version.major 1 && eqb x.version.minor 0) (λ _. connects s x h) (λ _. Outcome.refused refusal.Version))
+    (λ _. Outcome.refused refusal.IdOutOfOrder)
 
 unfoldable pub in_waiting : Session → Message → Host → Outcome
-in_waiting s m h = or_outcome (con_in m.body) (λ x. takes_con s m.op_id x h) (λ _. Outcome.refused 17)
+in_waiting s m h = or_outcome (con_in m.body) (λ x. takes_con s m.op_id x h) (λ _. Outcome.refused refusal.State)
 
 -- conCmp with ID 0 opens; all else is 17
 abbrev pub opened : Session → Session
 opened s = moved Open s.stored s
 
 unfoldable pub in_connecting : Session → ℕ → ℤ → Outcome
-in_connecting s c z = either (eqb c (command_of (bytes "conCmp")) && same_id z (pos 0)) (λ _. Outcome.silent is_opened (opened s)) (λ _. Outcome.refused 17)
+in_connecting s c z = either (eqb c (command_of (bytes "conCmp")) && same_id z (pos 0)) (λ _. Outcome.silent happened.Opened (opened s)) (λ _. Outcome.refused refusal.State)
 
 abbrev pub with_station : Session → ℤ → List Entry → Session
 with_station s z t = record { state = s.state; stored = s.stored; bs_eui = s.bs_eui; sn_bs_uuid = s.sn_bs_uuid; sn_sc_uuid = s.sn_sc_uuid; highest = z; lowest = s.lowest; station = t; centre = s.centre }
@@ -119,21 +122,21 @@ with_centre s z t = record { state = s.state; stored = s.stored; bs_eui = s.bs_e
 
 -- a station starts with an ID above the highest known and above 0 (18), with a free place (19); the reply is the Rsp
 abbrev pub start_at : Session → ℕ → Operation → ℤ → Option ℕ → Outcome
-start_at s sign o z none = Outcome.refused 19
-start_at s sign o z (some i) = Outcome.replies is_started (with_station s z (taken s.station i z o.start)) (rsp_of sign o.rsp z) []
+start_at s sign o z none = Outcome.refused refusal.SixteenOpen
+start_at s sign o z (some i) = Outcome.replies happened.Started (with_station s z (taken s.station i z o.start)) (rsp_of sign o.rsp z) []
 
 abbrev pub starts : Session → ℕ → Operation → ℤ → Outcome
-starts s sign o z = either (is_below (highest_of s) z) (λ _. start_at s sign o z (free_place s.station)) (λ _. Outcome.refused 18)
+starts s sign o z = either (is_below (highest_of s) z) (λ _. start_at s sign o z (free_place s.station)) (λ _. Outcome.refused refusal.IdOutOfOrder)
 
 -- the entry is freed by a Cmp of the same kind and ID
 abbrev pub complete_at : Session → Option ℕ → Outcome
-complete_at s none = Outcome.refused 17
-complete_at s (some i) = Outcome.silent is_completed (with_station s s.highest (freed s.station i))
+complete_at s none = Outcome.refused refusal.State
+complete_at s (some i) = Outcome.silent happened.Completed (with_station s s.highest (freed s.station i))
 
 -- a matching Rsp is replied to with Cmp and frees the entry
 abbrev pub respond_at : Session → Operation → ℤ → Option ℕ → Outcome
-respond_at s o z none = Outcome.refused 17
-respond_at s o z (some i) = Outcome.replies is_answered (with_centre s s.lowest (freed s.centre i)) (bare_of o.cmp z) []
+respond_at s o z none = Outcome.refused refusal.State
+respond_at s o z (some i) = Outcome.replies happened.Answered (with_centre s s.lowest (freed s.centre i)) (bare_of o.cmp z) []
 
 -- a start, a Cmp, a Rsp; all else is 17
 unfoldable pub in_open : Session → ℕ → ℕ → ℤ → Outcome
@@ -141,7 +144,7 @@ in_open s sign c z =
     or_outcome (operation_by (λ o. o.start) station_starts c) (λ o. starts s sign o z)
     (λ _. or_outcome (operation_by (λ o. o.cmp) station_starts c) (λ o. complete_at s (entry_place z o.start s.station))
     (λ _. or_outcome (operation_by (λ o. o.rsp) centre_starts c) (λ o. respond_at s o z (entry_place z o.start s.centre))
-    (λ _. Outcome.refused 17)))
+    (λ _. Outcome.refused refusal.State)))
 
 abbrev pub in_state : State → Session → Message → Host → Outcome
 in_state Waiting s m h = in_waiting s m h
@@ -150,4 +153,4 @@ in_state Open s m h = in_open s (four_of h.sign) (command_in m.body) m.op_id
 
 -- a record with the bytes d that are lent beside it; 15 before all these
 unfoldable pub arrives : Session → Message → List ℕ → Host → Outcome
-arrives s m d h = either (fits m d) (λ _. in_state s.state s m h) (λ _. Outcome.refused 15)
+arrives s m d h = either (fits m d) (λ _. in_state s.state s m h) (λ _. Outcome.refused refusal.Invalid)

@@ -5,8 +5,10 @@ use Rattle.octets.specs.Choice.{either}
 use Rattle.record.specs.declared.Message.{Message}
 use Rattle.record.specs.{Record.command_in, Fits.fits}
 use Rattle.session.specs.{Session.State, Session.Session, Session.State.Waiting, Session.State.Connecting, Session.State.Open}
-use Rattle.session.specs.{Place.same_id, Place.free_place, Place.taken, Kinds.Operation, Kinds.centre_starts, Kinds.operation_by, Happened.is_issued}
+use Rattle.session.specs.{Place.same_id, Place.free_place, Place.taken, Kinds.Operation, Kinds.centre_starts, Kinds.operation_by}
 use Rattle.session.specs.Arrive.{Outcome, moved, lowest_of, or_outcome, with_centre}
+use Rattle.refusal.specs.declared.Refusal.TheVariants as refusal
+use Rattle.session.specs.declared.Happened.TheVariants as happened
 
 -- the centre's IDs run downward from -1, each one below the last
 abbrev pub one_below : ℤ → ℤ
@@ -22,23 +24,23 @@ under_id z m = record { op_id = z; body = m.body }
 
 -- a bad record is 15, after 19
 abbrev pub begin_at : Session → Operation → ℤ → Message → List ℕ → Option ℕ → Outcome
-begin_at s o z m d none = Outcome.refused 19
-begin_at s o z m d (some i) = either (fits m d) (λ _. Outcome.replies is_issued (with_centre s z (taken s.centre i z o.start)) m d) (λ _. Outcome.refused 15)
+begin_at s o z m d none = Outcome.refused refusal.SixteenOpen
+begin_at s o z m d (some i) = either (fits m d) (λ _. Outcome.replies happened.Issued (with_centre s z (taken s.centre i z o.start)) m d) (λ _. Outcome.refused refusal.Invalid)
 
 -- at the lower end no more start (18)
 abbrev pub begins : Session → Operation → Message → List ℕ → Outcome
 begins s o m d =
-    either (same_id (lowest_of s) last_id) (λ _. Outcome.refused 18)
+    either (same_id (lowest_of s) last_id) (λ _. Outcome.refused refusal.IdOutOfOrder)
     (λ _. begin_at s o (one_below (lowest_of s)) (under_id (one_below (lowest_of s)) m) d (free_place s.centre))
 
 abbrev pub if_open : State → (Unit {0} → Outcome) → Outcome
-if_open Waiting f = Outcome.refused 17
-if_open Connecting f = Outcome.refused 17
+if_open Waiting f = Outcome.refused refusal.State
+if_open Connecting f = Outcome.refused refusal.State
 if_open Open f = f tt
 
 -- the centre starts one of its operations; the message is written under the ID issued
 abbrev pub kind_begins : Session → ℕ → Message → List ℕ → Outcome
-kind_begins s c m d = or_outcome (operation_by (λ o. o.start) centre_starts c) (λ o. begins s o m d) (λ _. Outcome.refused 17)
+kind_begins s c m d = or_outcome (operation_by (λ o. o.start) centre_starts c) (λ o. begins s o m d) (λ _. Outcome.refused refusal.State)
 
 unfoldable pub centre_begins : Session → Message → List ℕ → Outcome
 centre_begins s m d = if_open s.state (λ _. kind_begins s (command_in m.body) m d)

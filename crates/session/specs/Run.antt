@@ -7,7 +7,9 @@ use Rattle.record.specs.declared.Message.{Message}
 use Rattle.record.specs.Record.{command_in}
 use Rattle.session.specs.{Session.State, Session.Session, Session.Host, Session.State.Waiting, Session.State.Connecting, Session.State.Open}
 use Rattle.session.specs.{Kinds.Operation, Kinds.station_starts, Kinds.operation_by, Centre.centre_begins, Centre.one_below, Centre.lost}
-use Rattle.session.specs.Happened.{is_begun, is_started, is_completed, is_answered, is_issued, is_stored, is_nothing}
+use Rattle.session.specs.Happened.{is_begun, is_started, is_completed, is_answered, is_issued, happened_number}
+use Rattle.session.specs.declared.Happened.{Happened}
+use Rattle.session.specs.declared.Happened.TheVariants.{Stored, Nothing}
 use Rattle.session.specs.Arrive.{Outcome, is_below, highest_of, lowest_of, arrives}
 
 pub data Event : Type 0 where
@@ -62,7 +64,7 @@ is_waiting Open = false
 abbrev pub has_begun : Outcome → Bool
 has_begun (Outcome.refused n) = false
 has_begun (Outcome.silent w t) = false
-has_begun (Outcome.replies w t m d) = eqb w is_begun
+has_begun (Outcome.replies w t m d) = eqb (happened_number w) is_begun
 
 abbrev pub begins_anew : Session → Event → Bool
 begins_anew s (Event.arrival m d h) = is_waiting s.state && has_begun (arrives s m d h)
@@ -91,21 +93,21 @@ Rising s es = Ordered is_below accepted_in (highest_of s) s es
 abbrev pub Falling : Session → List Event → Type 0
 Falling s es = Ordered (λ a z. is_below z a) issued_in (lowest_of s) s es
 
--- what happened in a step; 0 where it was refused
+-- the number of what happened in a step; 0 where it was refused
 abbrev pub happened_of : Outcome → ℕ
 happened_of (Outcome.refused n) = 0
-happened_of (Outcome.silent w t) = w
-happened_of (Outcome.replies w t m d) = w
+happened_of (Outcome.silent w t) = happened_number w
+happened_of (Outcome.replies w t m d) = happened_number w
 
-abbrev pub loss_of : State → ℕ
-loss_of Waiting = is_nothing
-loss_of Connecting = is_stored
-loss_of Open = is_stored
+abbrev pub loss_of : State → Happened
+loss_of Waiting = Nothing
+loss_of Connecting = Stored
+loss_of Open = Stored
 
 abbrev pub happened_in : Session → Event → ℕ
 happened_in s (Event.arrival m d h) = happened_of (arrives s m d h)
 happened_in s (Event.beginning m d) = happened_of (centre_begins s m d)
-happened_in s Event.loss = loss_of s.state
+happened_in s Event.loss = happened_number (loss_of s.state)
 
 -- how many operations of a side are open after a step: a start takes exactly one entry, a Cmp or Rsp frees exactly one, a new session has none
 abbrev pub count_after : ℕ → ℕ → ℕ → ℕ → ℕ

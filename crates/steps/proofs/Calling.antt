@@ -17,11 +17,11 @@ use Rattle.session.specs.{Session.Session, Session.Host, Session.State, Centre.k
 use Rattle.session.specs.{Image.state_of, Image.session_at, Image.is_session}
 use Rattle.session.specs.Arrive.{Outcome, in_waiting, in_connecting, in_open, in_state, arrives}
 use Rattle.session.proofs.Image.{tested}
-use Rattle.steps.specs.declared.Answer.{Answer}
 use Rattle.steps.specs.Code.Lies.{Lies, unnumbered}
-use Rattle.steps.specs.Called.{Called, called, refused_as, called_by, host_of, arrive_on, begin_on}
+use Rattle.steps.specs.Called.{Answer, Called, called, refused_as, called_by, host_of, arrive_on, begin_on}
 use Rattle.steps.proofs.Tests.{unset, set_is, both_set, not_both, fault_none, fault_some}
 use Rattle.steps.proofs.{Calls.refused_call, Knowing.kept, Lying.told_long, Lying.lies, Lying.state_is}
+use Rattle.refusal.specs.declared.Refusal.TheVariants as refusal
 
 -- the state's byte
 module _ (d room : List ℕ) (m : Message) (eui : ℕ) (uuid sign : List ℕ) where
@@ -84,14 +84,14 @@ module _ (d : List ℕ) (b : Bool) (e : b ≡ is_session d) where
 
   module _ (m : Message) (lent room : List ℕ) where
     module _ (eui : ℕ) (u g : List ℕ) where
-      pub arrive_wrong : (r : Answer) → not b ≡ true → r ≡ refused_as 15 → ◌≡◌ {A = Called} (called r d room) (arrive_on d m lent eui u g room)
+      pub arrive_wrong : (r : Answer) → not b ≡ true → r ≡ refused_as refusal.Invalid → ◌≡◌ {A = Called} (called r d room) (arrive_on d m lent eui u g room)
       unfolding arrive_on
-      arrive_wrong r t p = simp (sym e ∙ unset b t) (refused_call d room (Outcome.refused 15) r 15 p refl)
+      arrive_wrong r t p = simp (sym e ∙ unset b t) (refused_call d room (Outcome.refused refusal.Invalid) r refusal.Invalid p refl)
 
       module _ (t : not b ≡ false) where
-        pub arrive_unlent : (r : Answer) → not (eqb (length u) 16) || not (eqb (length g) 4) ≡ true → r ≡ refused_as 15 → ◌≡◌ {A = Called} (called r d room) (arrive_on d m lent eui u g room)
+        pub arrive_unlent : (r : Answer) → not (eqb (length u) 16) || not (eqb (length g) 4) ≡ true → r ≡ refused_as refusal.Invalid → ◌≡◌ {A = Called} (called r d room) (arrive_on d m lent eui u g room)
         unfolding arrive_on
-        arrive_unlent r h p = simp (sym e ∙ set_is b t, not_both (eqb (length u) 16) (eqb (length g) 4) h) (refused_call d room (Outcome.refused 15) r 15 p refl)
+        arrive_unlent r h p = simp (sym e ∙ set_is b t, not_both (eqb (length u) 16) (eqb (length g) 4) h) (refused_call d room (Outcome.refused refusal.Invalid) r refusal.Invalid p refl)
 
         module _ (h : not (eqb (length u) 16) || not (eqb (length g) 4) ≡ false) (f : ℕ) (v : f ≡ fault_in m lent) where
           arrives_as : (x : Called) (o : Outcome) → x ≡ called_by d room o → arrives (session_at d) m lent (host_of eui u g) ≡ o → x ≡ arrive_on d m lent eui u g room
@@ -100,30 +100,30 @@ module _ (d : List ℕ) (b : Bool) (e : b ≡ is_session d) where
               let k = both_set (eqb (length u) 16) (eqb (length g) 4) h in
               simp (sym e ∙ set_is b t, k.0, k.1) (p ∙ ap (called_by d room) (sym q))
 
-          pub arrive_unfit : (r : Answer) → (f ≡ 0 → ⊥) → r ≡ refused_as 15 → ◌≡◌ {A = Called} (called r d room) (arrive_on d m lent eui u g room)
+          pub arrive_unfit : (r : Answer) → (f ≡ 0 → ⊥) → r ≡ refused_as refusal.Invalid → ◌≡◌ {A = Called} (called r d room) (arrive_on d m lent eui u g room)
           unfolding arrives
-          arrive_unfit r n p = arrives_as (called r d room) (Outcome.refused 15) (refused_call d room (Outcome.refused 15) r 15 p refl) (simp (fault_some m lent f v n))
+          arrive_unfit r n p = arrives_as (called r d room) (Outcome.refused refusal.Invalid) (refused_call d room (Outcome.refused refusal.Invalid) r refusal.Invalid p refl) (simp (fault_some m lent f v n))
 
           pub arrive_fit : (x : Called) → f ≡ 0 → x ≡ called_by d room (in_state (session_at d).state (session_at d) m (host_of eui u g)) → x ≡ arrive_on d m lent eui u g room
           unfolding arrives
           arrive_fit x n p = arrives_as x (in_state (session_at d).state (session_at d) m (host_of eui u g)) p (simp (sym (fault_none m lent f v n)))
 
-    pub begin_wrong : (r : Answer) → not b ≡ true → r ≡ refused_as 15 → ◌≡◌ {A = Called} (called r d room) (begin_on d m lent room)
+    pub begin_wrong : (r : Answer) → not b ≡ true → r ≡ refused_as refusal.Invalid → ◌≡◌ {A = Called} (called r d room) (begin_on d m lent room)
     unfolding begin_on
-    begin_wrong r t p = simp (sym e ∙ unset b t) (refused_call d room (Outcome.refused 15) r 15 p refl)
+    begin_wrong r t p = simp (sym e ∙ unset b t) (refused_call d room (Outcome.refused refusal.Invalid) r refusal.Invalid p refl)
 
     module _ (t : not b ≡ false) where
       begins_as : (x : Called) (o : Outcome) → x ≡ called_by d room o → centre_begins (session_at d) m lent ≡ o → x ≡ begin_on d m lent room
       unfolding begin_on
       begins_as x o p q = simp (sym e ∙ set_is b t) (p ∙ ap (called_by d room) (sym q))
 
-      pub begin_closed : (r : Answer) → (get_or d 344 0 ≡ 2 → ⊥) → r ≡ refused_as 17 → ◌≡◌ {A = Called} (called r d room) (begin_on d m lent room)
+      pub begin_closed : (r : Answer) → (get_or d 344 0 ≡ 2 → ⊥) → r ≡ refused_as refusal.State → ◌≡◌ {A = Called} (called r d room) (begin_on d m lent room)
       unfolding centre_begins
       begin_closed r q p =
-          begins_as (called r d room) (Outcome.refused 17) (refused_call d room (Outcome.refused 17) r 17 p refl)
+          begins_as (called r d room) (Outcome.refused refusal.State) (refused_call d room (Outcome.refused refusal.State) r refusal.State p refl)
           (ap (λ (x : State). if_open x (λ _. kind_begins (session_at d) (command_in m.body) m lent)) (state_is d (get_or d 344 0) refl) ∙ go (get_or d 344 0) q (tested d (sym e ∙ set_is b t)).state)
         where
-          go : (x : ℕ) → (x ≡ 2 → ⊥) → x < 3 → if_open (state_of x) (λ _. kind_begins (session_at d) (command_in m.body) m lent) ≡ Outcome.refused 17
+          go : (x : ℕ) → (x ≡ 2 → ⊥) → x < 3 → if_open (state_of x) (λ _. kind_begins (session_at d) (command_in m.body) m lent) ≡ Outcome.refused refusal.State
           go zero q l = refl
           go (suc zero) q l = refl
           go (suc (suc zero)) q l = absurd (q refl)

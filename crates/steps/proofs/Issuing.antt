@@ -19,10 +19,10 @@ use Rattle.record.specs.Record.{command_in}
 use Rattle.session.specs.{Session.Session, Place.same_id, Place.free_place, Kinds.Operation, Kinds.centre_starts, Kinds.operation_by}
 use Rattle.session.specs.{Arrive.Outcome, Arrive.lowest_of, Image.session_at}
 use Rattle.session.specs.Centre.{one_below, last_id, under_id, begin_at, begins, kind_begins}
-use Rattle.steps.specs.declared.Answer.{Answer}
 use Rattle.steps.specs.Code.Lies.{started_by, unnumbered}
-use Rattle.steps.specs.Called.{Called, called, refused_as, called_by}
+use Rattle.steps.specs.Called.{Answer, Called, called, refused_as, called_by}
 use Rattle.steps.proofs.{Tests.unset, Calls.by_outcome, Calls.refused_call, Knowing.kept, Knowing.result_bits}
+use Rattle.refusal.specs.declared.Refusal.TheVariants as refusal
 
 -- the lowest that counts is not above 0
 not_above : (b : Bool) (z : ℤ) → lt_z (pos 0) z ≡ b → lt_z (pos 0) (either b (λ _. pos 0) (λ _. z)) ≡ false
@@ -60,8 +60,8 @@ module _ (d : List ℕ) (x : ℤ) (g : mag x < 0x8000000000000000) (e : x ≡ lo
     abbrev begin : Outcome
     begin = begins (session_at d) (started_by start 0) (unnumbered b) lent
 
-    pub issue_last : (r : Answer) → of_z w64 x ≡ 0x8000000000000000 → r ≡ refused_as 18 → ◌≡◌ {A = Called} (called r d room) (called_by d room begin)
-    issue_last r t p = refused_call d room begin r 18 p (simp (last_is lowest low (ap (of_z w64) (sym e) ∙ t)))
+    pub issue_last : (r : Answer) → of_z w64 x ≡ 0x8000000000000000 → r ≡ refused_as refusal.IdOutOfOrder → ◌≡◌ {A = Called} (called r d room) (called_by d room begin)
+    issue_last r t p = refused_call d room begin r refusal.IdOutOfOrder p (simp (last_is lowest low (ap (of_z w64) (sym e) ∙ t)))
 
   module _ (t : of_z w64 x ≡ 0x8000000000000000 → ⊥) where
     not_last : of_z w64 lowest ≡ 0x8000000000000000 → ⊥
@@ -89,7 +89,7 @@ module _ (d : List ℕ) (x : ℤ) (g : mag x < 0x8000000000000000) (e : x ≡ lo
 
 -- what the centre starts: Rsp and Cmp of an operation are not looked at
 begin_any : (s : Session) (o : Operation) (m : Message) (lent : List ℕ) → begins s o m lent ≡ begins s (started_by o.start 0) m lent
-begin_any s o m lent = ap (λ (x : Outcome). either (same_id (lowest_of s) last_id) (λ _. Outcome.refused 18) (λ _. x)) (go (free_place s.centre))
+begin_any s o m lent = ap (λ (x : Outcome). either (same_id (lowest_of s) last_id) (λ _. Outcome.refused refusal.IdOutOfOrder) (λ _. x)) (go (free_place s.centre))
   where
     go : (p : Option ℕ) → begin_at s o (one_below (lowest_of s)) (under_id (one_below (lowest_of s)) m) lent p ≡ begin_at s (started_by o.start 0) (one_below (lowest_of s)) (under_id (one_below (lowest_of s)) m) lent p
     go none = refl
@@ -115,7 +115,7 @@ kind_is k s m lent = go (eqb k 9) (eqb k 12) (eqb k 5) (eqb k 6) (eqb k 21) refl
     go false false false false true p q r t u e = at 21 u (begin_any s (record { start = 21; rsp = 22; cmp = 23 }) m lent)
     go false false false false false p q r t u e = true_false e
 
-kind_none : (k : ℕ) (s : Session) (m : Message) (lent : List ℕ) → is_none k ≡ true → kind_begins s k m lent ≡ Outcome.refused 17
+kind_none : (k : ℕ) (s : Session) (m : Message) (lent : List ℕ) → is_none k ≡ true → kind_begins s k m lent ≡ Outcome.refused refusal.State
 unfolding operation_by centre_starts command_of commands place_in
 kind_none k s m lent e =
     let a = both (((not (eqb k 9) && not (eqb k 12)) && not (eqb k 5)) && not (eqb k 6)) (not (eqb k 21)) e in
@@ -134,7 +134,7 @@ module _ (d room : List ℕ) (b : Body) (lent : List ℕ) (k : ℕ) (e : k ≡ c
   pub begin_kind : (c : Called) → is_none k ≡ false → c ≡ called_by d room (begins (session_at d) (started_by k 0) (unnumbered b) lent) → c ≡ called_by d room (begun (command_in b))
   begin_kind c f p = by_outcome d room c _ (begun (command_in b)) p (ap begun (sym e) ∙ kind_is k (session_at d) (unnumbered b) lent f)
 
-  pub begin_none : (r : Answer) → is_none k ≡ true → r ≡ refused_as 17 → ◌≡◌ {A = Called} (called r d room) (called_by d room (begun (command_in b)))
-  begin_none r f p = refused_call d room (begun (command_in b)) r 17 p (ap begun (sym e) ∙ kind_none k (session_at d) (unnumbered b) lent f)
+  pub begin_none : (r : Answer) → is_none k ≡ true → r ≡ refused_as refusal.State → ◌≡◌ {A = Called} (called r d room) (called_by d room (begun (command_in b)))
+  begin_none r f p = refused_call d room (begun (command_in b)) r refusal.State p (ap begun (sym e) ∙ kind_none k (session_at d) (unnumbered b) lent f)
 
 pub ruleset issues = (issue_last, below_fits, issue_next, begin_kind, begin_none)

@@ -10,8 +10,10 @@ use lib.ListN.{length, take, drop, get_or}
 use mir.Syntax.{w64}
 use mir.Val.{to_z, of_z}
 use mir.ValLaws.{to_z-of_z}
-use borrow.Author.Tests.{lt-ltb, le-ltb, leb-true, leb-false}
-use Rattle.octets.specs.{Number.little_at, Number.if_there, Signed.signed_of}
+use borrow.Author.Tests.{lt-ltb, le-ltb, leb-true, leb-false, ltb-false}
+use Rattle.std.specs.Prelude.{cond}
+use Rattle.std.specs.Int.{int_max, int_min}
+use Rattle.octets.specs.{Choice.either, Number.little_at, Number.if_there, Signed.signed_of}
 use Rattle.octets.proofs.Reading.{if_there_lem}
 use Rattle.names.specs.Names.{same_bytes}
 use Rattle.message.specs.declared.MaybeId.{MaybeId}
@@ -37,21 +39,31 @@ le_is (pos a) (negsuc b) = refl
 le_is (negsuc a) (pos b) = refl
 le_is (negsuc a) (negsuc b) = not_above b a (leb b a) refl
 
+-- the library's greater and lesser of a number and 0
+max_zero : (z : ℤ) → int_max z (pos 0) ≡ either (is_below z (pos 0)) (λ _. pos 0) (λ _. z)
+max_zero (pos n) = go (ltb 0 n) refl
+  where
+    go : (b : Bool) → ltb 0 n ≡ b → cond b (pos n) (pos 0) ≡ either (ltb n 0) (λ _. pos 0) (λ _. pos n)
+    go true e = rw (le-ltb n 0 (omega arith))
+    go false e = let z : n ≡ 0 = omega (arith, ltb-false 0 n e) in rw z
+max_zero (negsuc k) = refl
+
+min_zero : (z : ℤ) → int_min z (pos 0) ≡ either (is_below (pos 0) z) (λ _. pos 0) (λ _. z)
+min_zero (pos n) = go (ltb 0 n)
+  where
+    go : (b : Bool) → cond b (pos 0) (pos n) ≡ either b (λ _. pos 0) (λ _. pos n)
+    go true = refl
+    go false = refl
+min_zero (negsuc k) = refl
+
 -- a number that was read, z, is the session's
 module _ (s : Session) (z : ℤ) (h : mag z < 0x8000000000000000) where
-  module _ (e : z ≡ s.highest) where
-    pub highest_zero : lt_z (to_z w64 (of_z w64 z)) (pos 0) ≡ true → pos 0 ≡ highest_of s
-    highest_zero t = let g : lt_z s.highest (pos 0) ≡ true = rw (kept z h, e) at t in rw g
+  module _ (x : ℤ) (g : mag x < 0x8000000000000000) where
+    pub highest_max : z ≡ s.highest → x ≡ int_max (to_z w64 (of_z w64 z)) (pos 0) → to_z w64 (of_z w64 x) ≡ highest_of s
+    highest_max e q = kept x g ∙ q ∙ ap (λ (y : ℤ). int_max y (pos 0)) (kept z h ∙ e) ∙ max_zero s.highest
 
-    pub highest_kept : lt_z (to_z w64 (of_z w64 z)) (pos 0) ≡ false → to_z w64 (of_z w64 z) ≡ highest_of s
-    highest_kept t = let g : lt_z s.highest (pos 0) ≡ false = rw (kept z h, e) at t in rw g (kept z h ∙ e)
-
-  module _ (e : z ≡ s.lowest) where
-    pub lowest_zero : lt_z (pos 0) (to_z w64 (of_z w64 z)) ≡ true → pos 0 ≡ lowest_of s
-    lowest_zero t = let g : lt_z (pos 0) s.lowest ≡ true = rw (kept z h, e) at t in rw g
-
-    pub lowest_kept : lt_z (pos 0) (to_z w64 (of_z w64 z)) ≡ false → to_z w64 (of_z w64 z) ≡ lowest_of s
-    lowest_kept t = let g : lt_z (pos 0) s.lowest ≡ false = rw (kept z h, e) at t in rw g (kept z h ∙ e)
+    pub lowest_min : z ≡ s.lowest → x ≡ int_min (to_z w64 (of_z w64 z)) (pos 0) → to_z w64 (of_z w64 x) ≡ lowest_of s
+    lowest_min e q = kept x g ∙ q ∙ ap (λ (y : ℤ). int_min y (pos 0)) (kept z h ∙ e) ∙ min_zero s.lowest
 
 -- a result that is known by its definition
 pub result_bits : (x y : ℤ) → mag x < 0x8000000000000000 → x ≡ y → mag y < 0x8000000000000000

@@ -2,7 +2,6 @@ pub mod Tests
 pub mod Lying
 pub mod Knowing
 pub mod Searching
-pub mod Choosing
 pub mod Sixteens
 pub mod Storing
 pub mod Losing

@@ -3,11 +3,11 @@
 use mathlib.Core.Path.{◌≡◌, sym, ap, ap₂, ◌∙◌}
 use mathlib.Core.Bool.{Bool, false, not, ◌&&◌}
 use mathlib.Core.List.{List}
-use Prim.Native.Nat.{ℕ, zero, suc, ◌+◌, ◌*◌, ◌≤◌, ◌<◌}
+use Prim.Native.Nat.{ℕ, zero, suc, ◌+◌, ◌-◌, ◌*◌, ◌≤◌, ◌<◌}
 use native.Mathlib.Numerals.{add-one}
 use native.Mathlib.Omega.{arith}
-use lib.{Dec.eqb, Dec.ltb, Seq.drop-cons}
-use lib.ListN.{length, get_or, drop, drop_of_length-le}
+use lib.{Dec.eqb, Dec.ltb, Seq.drop-cons, Seq.take_all}
+use lib.ListN.{length, get_or, take, drop, drop_of_length-le, length-drop}
 use borrow.Author.Tests.{eq-eqb, ne_eqb}
 use Rattle.octets.specs.Bytes.{IsBytes}
 use Rattle.session.specs.Place.{entry, no_entry}
@@ -17,23 +17,23 @@ use Rattle.steps.specs.Code.Lies.{Lies}
 use Rattle.steps.proofs.Tests.{set_is, and_assoc, and-true}
 
 -- ok says that the bytes passed so far are zeros; those from i on are left
-module _ (d : List ℕ) (from i : ℕ) (ok : Bool) (e : ok && are_zeros (drop i d) ≡ are_zeros (drop from d)) where
-  pub zeros_next : i < length d → (ok && eqb (get_or d i 0) 0) && are_zeros (drop (i + 1) d) ≡ are_zeros (drop from d)
+module _ (d : List ℕ) (i : ℕ) (ok : Bool) (e : ok && are_zeros (drop i d) ≡ are_zeros d) where
+  pub zeros_next : i < length d → (ok && eqb (get_or d i 0) 0) && are_zeros (drop (i + 1) d) ≡ are_zeros d
   unfolding are_zeros
   zeros_next h =
       and_assoc ok (eqb (get_or d i 0) 0) (are_zeros (drop (i + 1) d))
       ∙ ap (λ (k : ℕ). ok && (eqb (get_or d i 0) 0 && are_zeros (drop k d))) (add-one i)
       ∙ ap (λ (l : List ℕ). ok && are_zeros l) (sym (drop-cons d i 0 h)) ∙ e
 
-  pub zeros_end : length d ≤ i → ok ≡ are_zeros (drop from d)
+  pub zeros_end : length d ≤ i → ok ≡ are_zeros d
   unfolding are_zeros
   zeros_end h = sym (and-true ok) ∙ ap (λ (l : List ℕ). ok && are_zeros l) (sym (drop_of_length-le d h)) ∙ e
 
-pub session_test : (d : List ℕ) (z : Bool) → length d ≡ 368 → z ≡ are_zeros (drop 346 d) → (ltb (get_or d 344 0) 3 && ltb (get_or d 345 0) 2) && z ≡ is_session d
+pub session_test : (d : List ℕ) (z : Bool) → length d ≡ 368 → z ≡ are_zeros (take (length d - 346) (drop 346 d)) → (ltb (get_or d 344 0) 3 && ltb (get_or d 345 0) 2) && z ≡ is_session d
 unfolding is_session
 session_test d z long e =
     and_assoc (ltb (get_or d 344 0) 3) (ltb (get_or d 345 0) 2) z
-    ∙ ap (λ (x : Bool). ltb (get_or d 344 0) 3 && (ltb (get_or d 345 0) 2 && x)) e ∙ sym (simp (eq-eqb (length d) 368 long))
+    ∙ ap (λ (x : Bool). ltb (get_or d 344 0) 3 && (ltb (get_or d 345 0) 2 && x)) (e ∙ ap are_zeros (take_all (length d - 346) (drop 346 d) (omega (arith, length-drop 346 d)))) ∙ sym (simp (eq-eqb (length d) 368 long))
 
 pub session_short : (d : List ℕ) → (length d ≡ 368 → ⊥) → false ≡ is_session d
 unfolding is_session

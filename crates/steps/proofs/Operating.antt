@@ -13,10 +13,10 @@ use Rattle.names.specs.Names.{commands, place_in, command_of}
 use Rattle.session.specs.{Session.Session, Place.free_place, Place.entry_place, Image.session_at}
 use Rattle.session.specs.Kinds.{Operation, station_starts, centre_starts, operation_by}
 use Rattle.session.specs.Arrive.{Outcome, is_below, highest_of, starts, start_at, complete_at, respond_at, in_open}
-use Rattle.steps.specs.declared.Answer.{Answer}
 use Rattle.steps.specs.Code.Lies.{started_by, ended_by}
-use Rattle.steps.specs.Called.{Called, called, refused_as, called_by}
+use Rattle.steps.specs.Called.{Answer, Called, called, refused_as, called_by}
 use Rattle.steps.proofs.{Tests.unset, Tests.set_is, Calls.by_outcome, Calls.refused_call, Knowing.le_kept, Knowing.result_bits}
+use Rattle.refusal.specs.declared.Refusal.TheVariants as refusal
 
 -- a station's start: late or timely, by the highest ID known, x
 module _ (d room : List ℕ) (sign start answer : ℕ) (z : ℤ) (f : SFits w64 z) (x : ℤ) (g : mag x < 0x8000000000000000) (e : x ≡ highest_of (session_at d)) where
@@ -26,8 +26,8 @@ module _ (d room : List ℕ) (sign start answer : ℕ) (z : ℤ) (f : SFits w64 
   late_is : le_z (to_z w64 (of_z w64 z)) (to_z w64 (of_z w64 x)) ≡ not (is_below (highest_of (session_at d)) z)
   late_is = le_kept z x (highest_of (session_at d)) f.sfits (result_bits x (highest_of (session_at d)) g e) e
 
-  pub start_late : (r : Answer) → le_z (to_z w64 (of_z w64 z)) (to_z w64 (of_z w64 x)) ≡ true → r ≡ refused_as 18 → ◌≡◌ {A = Called} (called r d room) (called_by d room (start_of z))
-  start_late r t p = refused_call d room (start_of z) r 18 p (simp (unset (is_below (highest_of (session_at d)) z) (sym late_is ∙ t)))
+  pub start_late : (r : Answer) → le_z (to_z w64 (of_z w64 z)) (to_z w64 (of_z w64 x)) ≡ true → r ≡ refused_as refusal.IdOutOfOrder → ◌≡◌ {A = Called} (called r d room) (called_by d room (start_of z))
+  start_late r t p = refused_call d room (start_of z) r refusal.IdOutOfOrder p (simp (unset (is_below (highest_of (session_at d)) z) (sym late_is ∙ t)))
 
   pub start_timely : (c : Called) → le_z (to_z w64 (of_z w64 z)) (to_z w64 (of_z w64 x)) ≡ false
       → c ≡ called_by d room (start_at (session_at d) sign (started_by start answer) (to_z w64 (of_z w64 z)) (free_place (session_at d).station)) → c ≡ called_by d room (start_of z)
@@ -49,7 +49,7 @@ pub record Answers (n k a : ℕ) : Type 0 where
 
 -- the part of an operation that is not looked at
 start_any : (s : Session) (sign : ℕ) (o : Operation) (z : ℤ) → starts s sign o z ≡ starts s sign (started_by o.start o.rsp) z
-start_any s sign o z = ap (λ (x : Outcome). either (is_below (highest_of s) z) (λ _. x) (λ _. Outcome.refused 18)) (go (free_place s.station))
+start_any s sign o z = ap (λ (x : Outcome). either (is_below (highest_of s) z) (λ _. x) (λ _. Outcome.refused refusal.IdOutOfOrder)) (go (free_place s.station))
   where
     go : (p : Option ℕ) → start_at s sign o z p ≡ start_at s sign (started_by o.start o.rsp) z p
     go none = refl
@@ -110,10 +110,10 @@ module _ (d room : List ℕ) (sign command n : ℕ) (z : ℤ) (f : SFits w64 z) 
 
 pub open_none : (d room : List ℕ) (sign c : ℕ) (z : ℤ) (r : Answer)
     → (c ≡ 9 → ⊥) → (c ≡ 3 → ⊥) → (c ≡ 7 → ⊥) → (c ≡ 11 → ⊥) → (c ≡ 14 → ⊥) → (c ≡ 20 → ⊥) → (c ≡ 10 → ⊥) → (c ≡ 2 → ⊥) → (c ≡ 15 → ⊥) → (c ≡ 17 → ⊥) → (c ≡ 22 → ⊥)
-    → r ≡ refused_as 17 → ◌≡◌ {A = Called} (called r d room) (called_by d room (in_open (session_at d) sign c z))
+    → r ≡ refused_as refusal.State → ◌≡◌ {A = Called} (called r d room) (called_by d room (in_open (session_at d) sign c z))
 unfolding in_open operation_by station_starts centre_starts command_of commands place_in
 open_none d room sign c z r a b e f g h i j k l m p =
-    refused_call d room (in_open (session_at d) sign c z) r 17 p
+    refused_call d room (in_open (session_at d) sign c z) r refusal.State p
     (simp (ne_eqb 9 c (λ q. a (sym q)), ne_eqb 3 c (λ q. b (sym q)), ne_eqb 7 c (λ q. e (sym q)), ne_eqb 11 c (λ q. f (sym q)), ne_eqb 14 c (λ q. g (sym q)), ne_eqb 20 c (λ q. h (sym q)), ne_eqb 10 c (λ q. i (sym q)), ne_eqb 2 c (λ q. j (sym q)), ne_eqb 15 c (λ q. k (sym q)), ne_eqb 17 c (λ q. l (sym q)), ne_eqb 22 c (λ q. m (sym q))))
 
 pub ruleset operations = (start_late, start_timely, open_start, open_complete, open_answer, open_none)

@@ -11,11 +11,12 @@ use lib.ListN.{length, drop, get_or, drop_of_length-le}
 use mir.Syntax.{w64}
 use mir.Val.{to_z, of_z, SFits}
 use borrow.Author.Tests.{eq-eqb, ne_eqb, eqb-true, eqb-false}
-use Rattle.session.specs.{Session.Entry, Image.id_at, Image.entries_at}
+use Rattle.session.specs.{Session.Entry, Image.id_at, Image.entries_at, Image.session_at}
 use Rattle.session.specs.Place.{same_id, is_free, matches, entry, no_entry, first_from, free_place, entry_place}
 use Rattle.session.proofs.Image.{entries_long}
-use Rattle.steps.specs.Code.Lies.{place_number}
-use Rattle.steps.proofs.{Tests.and_assoc, Lying.entry_at, Knowing.kept}
+use Rattle.steps.specs.declared.side.Side.{Side, TheVariants.Station, TheVariants.Centre}
+use Rattle.steps.specs.Code.Lies.{Lies, side_ids, side_kinds, entries_of}
+use Rattle.steps.proofs.{Tests.and_assoc, Lying.entry_at, Knowing.kept, Storing.long}
 
 same_test : (a b c d : ℕ) (x : Bool) → eqb c d ≡ x → (a ≡ b → c ≡ d) → (c ≡ d → a ≡ b) → eqb a b ≡ eqb c d
 same_test a b c d true e f g = eq-eqb a b (g (eqb-true c d e)) ∙ sym e
@@ -48,58 +49,74 @@ module _ (f : Entry → Bool) (t : List Entry) (i : ℕ) where
   unfolding first_from
   found_none h = rw (drop_of_length-le t h)
 
--- one side's places in the bytes, and the search come to place i
-module _ (d : List ℕ) (ids kinds i : ℕ) where
+-- a side's places in the bytes, and the search come to place i
+entries_in : (d : List ℕ) (v : Side) → entries_of v (session_at d) ≡ entries_at d (side_ids v) (side_kinds v) 16
+unfolding session_at
+entries_in d Station = refl
+entries_in d Centre = refl
+
+module _ (d : List ℕ) (v : Side) (i : ℕ) where
   abbrev side : List Entry
-  side = entries_at d ids kinds 16
+  side = entries_of v (session_at d)
 
-  none_left : 16 ≤ i → length side ≤ i
-  none_left h = omega (arith, entries_long d ids kinds 16)
+  sixteen : length side ≡ 16
+  sixteen = ap length (entries_in d v) ∙ entries_long d (side_ids v) (side_kinds v) 16
 
-  inside : i < 16 → i < length side
-  inside h = omega (arith, entries_long d ids kinds 16)
+  there : i < 16 → (z : ℤ) → z ≡ id_at d (side_ids v + 8 * i) → get_or side i no_entry ≡ entry z (get_or d (side_kinds v + i) 0)
+  there h z q =
+      ap (λ (t : List Entry). get_or t i no_entry) (entries_in d v) ∙ entry_at d (side_ids v) (side_kinds v) 16 i h
+      ∙ ap (λ (y : ℤ). entry y (get_or d (side_kinds v + i) 0)) (sym q)
 
-  there : i < 16 → (z : ℤ) → z ≡ id_at d (ids + 8 * i) → get_or side i no_entry ≡ entry z (get_or d (kinds + i) 0)
-  there h z q = entry_at d ids kinds 16 i h ∙ ap (λ (y : ℤ). entry y (get_or d (kinds + i) 0)) (sym q)
+-- the ID at place i, from where the code has the side's IDs
+id_there : (d : List ℕ) (v : Side) (i ids : ℕ) (z : ℤ) → ids ≡ side_ids v → z ≡ id_at d (ids + 8 * i) → z ≡ id_at d (side_ids v + 8 * i)
+id_there d v i ids z p q = q ∙ ap (λ (k : ℕ). id_at d (k + 8 * i)) p
 
--- a free one, whatever the kinds
-module _ (d : List ℕ) (ids i : ℕ)
-    (e : (kinds : ℕ) → free_place (entries_at d ids kinds 16) ≡ first_from is_free i (drop i (entries_at d ids kinds 16))) where
-  pub free_none : 16 ≤ i → (kinds : ℕ) → 16 ≡ place_number (free_place (entries_at d ids kinds 16))
-  free_none h kinds = sym (ap place_number (e kinds ∙ found_none is_free (entries_at d ids kinds 16) i (none_left d ids kinds i h)))
+-- and there is room for it and its kind
+pub id_room : (d : List ℕ) (i ids : ℕ) → Lies d → ids ≤ 152 → i < 16 → ids + 8 * i + 8 ≤ length d
+id_room d i ids l f h = omega (arith, long d l)
 
-  module _ (h : i < 16) (z : ℤ) (m : mag z < 0x8000000000000000) (q : z ≡ id_at d (ids + 8 * i)) where
-    free_is : (kinds : ℕ) → is_free (get_or (entries_at d ids kinds 16) i no_entry) ≡ eqb (of_z w64 z) 0
-    free_is kinds = ap is_free (there d ids kinds i h z q) ∙ sym (zero_bits z m)
+pub kind_room : (d : List ℕ) (i kinds : ℕ) → Lies d → kinds ≤ 296 → i < 16 → kinds + i < length d
+kind_room d i kinds l f h = omega (arith, long d l)
 
-    pub free_here : of_z w64 z ≡ 0 → (kinds : ℕ) → i ≡ place_number (free_place (entries_at d ids kinds 16))
-    free_here t kinds =
-        sym (ap place_number (e kinds ∙ found_here is_free (entries_at d ids kinds 16) i (inside d ids kinds i h) (free_is kinds ∙ eq-eqb (of_z w64 z) 0 t)))
+-- a free one
+module _ (d : List ℕ) (v : Side) (i : ℕ) (e : free_place (entries_of v (session_at d)) ≡ first_from is_free i (drop i (entries_of v (session_at d)))) where
+  pub free_none : 16 ≤ i → free_place (entries_of v (session_at d)) ≡ none
+  free_none h = e ∙ found_none is_free (side d v i) i (omega (arith, sixteen d v i))
 
-    pub free_later : (of_z w64 z ≡ 0 → ⊥) → (kinds : ℕ)
-        → free_place (entries_at d ids kinds 16) ≡ first_from is_free (i + 1) (drop (i + 1) (entries_at d ids kinds 16))
-    free_later t kinds = e kinds ∙ found_later is_free (entries_at d ids kinds 16) i (inside d ids kinds i h) (free_is kinds ∙ ne_eqb (of_z w64 z) 0 t)
+  module _ (h : i < 16) (ids : ℕ) (p : ids ≡ side_ids v) (z : ℤ) (m : mag z < 0x8000000000000000) (q : z ≡ id_at d (ids + 8 * i)) where
+    inside : i < length (side d v i)
+    inside = omega (arith, sixteen d v i)
+
+    free_is : is_free (get_or (side d v i) i no_entry) ≡ eqb (of_z w64 z) 0
+    free_is = ap is_free (there d v i h z (id_there d v i ids z p q)) ∙ sym (zero_bits z m)
+
+    pub free_here : of_z w64 z ≡ 0 → free_place (entries_of v (session_at d)) ≡ some i
+    free_here t = e ∙ found_here is_free (side d v i) i inside (free_is ∙ eq-eqb (of_z w64 z) 0 t)
+
+    pub free_later : (of_z w64 z ≡ 0 → ⊥) → free_place (entries_of v (session_at d)) ≡ first_from is_free (i + 1) (drop (i + 1) (entries_of v (session_at d)))
+    free_later t = e ∙ found_later is_free (side d v i) i inside (free_is ∙ ne_eqb (of_z w64 z) 0 t)
 
 -- one with an ID and kind, the ID as the machine has it
-module _ (d : List ℕ) (ids kinds i : ℕ) (y : ℤ) (s : SFits w64 y) (k : ℕ)
-    (e : entry_place (to_z w64 (of_z w64 y)) k (entries_at d ids kinds 16) ≡ first_from (matches (to_z w64 (of_z w64 y)) k) i (drop i (entries_at d ids kinds 16))) where
-  place_is : place_number (entry_place y k (entries_at d ids kinds 16)) ≡ place_number (first_from (matches (to_z w64 (of_z w64 y)) k) i (drop i (entries_at d ids kinds 16)))
-  place_is = ap (λ (x : ℤ). place_number (entry_place x k (entries_at d ids kinds 16))) (sym (kept y s.sfits)) ∙ ap place_number e
+module _ (d : List ℕ) (v : Side) (i : ℕ) (y : ℤ) (s : SFits w64 y) (k : ℕ)
+    (e : entry_place y k (entries_of v (session_at d)) ≡ first_from (matches y k) i (drop i (entries_of v (session_at d)))) where
+  pub match_none : 16 ≤ i → entry_place y k (entries_of v (session_at d)) ≡ none
+  match_none h = e ∙ found_none (matches y k) (side d v i) i (omega (arith, sixteen d v i))
 
-  pub match_none : 16 ≤ i → 16 ≡ place_number (entry_place y k (entries_at d ids kinds 16))
-  match_none h = sym (place_is ∙ ap place_number (found_none (matches (to_z w64 (of_z w64 y)) k) (entries_at d ids kinds 16) i (none_left d ids kinds i h)))
-
-  module _ (h : i < 16) (z : ℤ) (m : mag z < 0x8000000000000000) (q : z ≡ id_at d (ids + 8 * i))
+  module _ (h : i < 16) (ids kinds : ℕ) (o : ids ≡ side_ids v) (u : kinds ≡ side_kinds v) (z : ℤ) (m : mag z < 0x8000000000000000) (q : z ≡ id_at d (ids + 8 * i))
       (b : Bool) (r : b ≡ matches (to_z w64 (of_z w64 y)) k (entry (to_z w64 (of_z w64 z)) (get_or d (kinds + i) 0))) where
-    match_there : matches (to_z w64 (of_z w64 y)) k (get_or (entries_at d ids kinds 16) i no_entry) ≡ b
+    within : i < length (side d v i)
+    within = omega (arith, sixteen d v i)
+
+    match_there : matches y k (get_or (side d v i) i no_entry) ≡ b
     match_there =
-        ap (matches (to_z w64 (of_z w64 y)) k) (there d ids kinds i h z q)
-        ∙ sym (r ∙ ap (λ (x : ℤ). matches (to_z w64 (of_z w64 y)) k (entry x (get_or d (kinds + i) 0))) (kept z m))
+        ap (matches y k) (there d v i h z (id_there d v i ids z o q))
+        ∙ sym
+        (r ∙ ap (λ (x : ℤ). matches x k (entry (to_z w64 (of_z w64 z)) (get_or d (kinds + i) 0))) (kept y s.sfits)
+        ∙ ap (λ (x : ℤ). matches y k (entry x (get_or d (kinds + i) 0))) (kept z m)
+        ∙ ap (λ (j : ℕ). matches y k (entry z (get_or d (j + i) 0))) u)
 
-    pub match_here : b ≡ true → i ≡ place_number (entry_place y k (entries_at d ids kinds 16))
-    match_here t =
-        sym (place_is ∙ ap place_number (found_here (matches (to_z w64 (of_z w64 y)) k) (entries_at d ids kinds 16) i (inside d ids kinds i h) (match_there ∙ t)))
+    pub match_here : b ≡ true → entry_place y k (entries_of v (session_at d)) ≡ some i
+    match_here t = e ∙ found_here (matches y k) (side d v i) i within (match_there ∙ t)
 
-    pub match_later : b ≡ false
-        → entry_place (to_z w64 (of_z w64 y)) k (entries_at d ids kinds 16) ≡ first_from (matches (to_z w64 (of_z w64 y)) k) (i + 1) (drop (i + 1) (entries_at d ids kinds 16))
-    match_later t = e ∙ found_later (matches (to_z w64 (of_z w64 y)) k) (entries_at d ids kinds 16) i (inside d ids kinds i h) (match_there ∙ t)
+    pub match_later : b ≡ false → entry_place y k (entries_of v (session_at d)) ≡ first_from (matches y k) (i + 1) (drop (i + 1) (entries_of v (session_at d)))
+    match_later t = e ∙ found_later (matches y k) (side d v i) i within (match_there ∙ t)

@@ -14,12 +14,14 @@ use Rattle.session.specs.{Image.session_image, Image.session_at, Image.is_sessio
 use Rattle.session.specs.Run.{Event, reached, after, loss_of}
 use Rattle.session.proofs.{Image.tested, Back.Held, Back.session_is, Back.session_back}
 use Rattle.session.proofs.Holding.{Holds, held_in, arrival_held, begin_held, loss_held}
-use Rattle.steps.specs.declared.Answer.{Answer}
-use Rattle.steps.specs.Called.{Called, called, refused_as, done_as, step_refuses, called_by, host_of, arrive_on, begin_on, lost_answer, lost_session}
+use Rattle.steps.specs.Called.{step_refusal, Answer, Called, called, refused_as, done_as, step_refuses, called_by, host_of, arrive_on, begin_on, lost_answer, lost_session}
+use Rattle.refusal.specs.declared.Refusal.TheVariants as refusal
+use Rattle.refusal.specs.Number.{number_of}
+use Rattle.session.specs.declared.Happened.{Happened}
 
 -- after a call: the session t that the rule made of s; where the call was refused, by the rule or with 20, s itself
 abbrev pub unless_refused : Answer → Session → Session → Session
-unless_refused r s t = either (eqb r.refusal 0) (λ _. t) (λ _. s)
+unless_refused r s t = either (eqb (step_refusal r) 0) (λ _. t) (λ _. s)
 
 abbrev pub session_after : Session → Event → Answer → Session
 session_after s e r = unless_refused r s (after s e)
@@ -48,13 +50,13 @@ module _ (d : List ℕ) (bytes : IsBytes d) where
 
   module _ (room : List ℕ) where
     -- a step whose message is written, or has no room
-    sent_seen : (w : ℕ) (t : Session) (m : Message) (l f : List ℕ) → is_session d ≡ true → Held t → (b : Bool)
-        → ShowsOf d (Outcome.replies w t m l) (either b (λ _. called (done_as w (length f)) (session_image t) (put_at room 0 f)) (λ _. step_refuses 20 d room))
+    sent_seen : (w : Happened) (t : Session) (m : Message) (l f : List ℕ) → is_session d ≡ true → Held t → (b : Bool)
+        → ShowsOf d (Outcome.replies w t m l) (either b (λ _. called (done_as w (length f)) (session_image t) (put_at room 0 f)) (λ _. step_refuses refusal.RoomTooShort d room))
     sent_seen w t m l f e h true = image_seen e t h
     sent_seen w t m l f e h false = (refl, refl)
 
     outcome_seen : (o : Outcome) → is_session d ≡ true → Holds o → ShowsOf d o (called_by d room o)
-    outcome_seen (Outcome.refused n) e h = (refl, same_session (eqb n 0) (session_at d))
+    outcome_seen (Outcome.refused r) e h = (refl, same_session (eqb (number_of r) 0) (session_at d))
     outcome_seen (Outcome.silent w t) e h = image_seen e t h
     outcome_seen (Outcome.replies w t m l) e h = sent_seen w t m l (frame_for m l) e h (leb (length (frame_for m l)) (length room))
 
@@ -67,7 +69,7 @@ module _ (d : List ℕ) (bytes : IsBytes d) where
           rule = arrives (session_at d) m lent (host_of e u g)
 
           go : (a : Bool) → is_session d ≡ a → (b : Bool) → eqb (length u) 16 ≡ b → (c : Bool)
-              → ShowsOf d rule (either a (λ _. called_by d room (either (b && c) (λ _. rule) (λ _. Outcome.refused 15))) (λ _. step_refuses 15 d room))
+              → ShowsOf d rule (either a (λ _. called_by d room (either (b && c) (λ _. rule) (λ _. Outcome.refused refusal.Invalid))) (λ _. step_refuses refusal.Invalid d room))
           go true p true q true = outcome_seen rule p (arrival_held (session_at d) (held p) m lent (host_of e u g) (eqb-true (length u) 16 q))
           go true p true q false = (refl, refl)
           go true p false q c = (refl, refl)
@@ -80,7 +82,7 @@ module _ (d : List ℕ) (bytes : IsBytes d) where
           rule : Outcome
           rule = centre_begins (session_at d) m lent
 
-          go : (a : Bool) → is_session d ≡ a → ShowsOf d rule (either a (λ _. called_by d room rule) (λ _. step_refuses 15 d room))
+          go : (a : Bool) → is_session d ≡ a → ShowsOf d rule (either a (λ _. called_by d room rule) (λ _. step_refuses refusal.Invalid d room))
           go true p = outcome_seen rule p (begin_held (session_at d) (held p) m lent)
           go false p = (refl, refl)
 
@@ -88,6 +90,6 @@ module _ (d : List ℕ) (bytes : IsBytes d) where
   loss_seen = go (is_session d) refl
     where
       go : (a : Bool) → is_session d ≡ a
-          → Shows d (lost (session_at d)) (either a (λ _. done_as (loss_of (session_at d).state) 0) (λ _. refused_as 15)) (either a (λ _. session_image (lost (session_at d))) (λ _. d))
+          → Shows d (lost (session_at d)) (either a (λ _. done_as (loss_of (session_at d).state) 0) (λ _. refused_as refusal.Invalid)) (either a (λ _. session_image (lost (session_at d))) (λ _. d))
       go true p = image_seen p (lost (session_at d)) (loss_held (session_at d) (held p))
       go false p = (refl, refl)

@@ -6,7 +6,7 @@ use mathlib.Core.List.{List, [], ◌++◌, append-nil}
 use Prim.Native.Nat.{ℕ, ◌+◌, ◌^◌, ◌≤◌, ◌<◌}
 use native.Mathlib.Omega.{arith}
 use lib.Dec.{eqb}
-use lib.ListN.{length, get_or, set, take, drop, replicate, length-replicate, replicate-append-replicate}
+use lib.ListN.{length, get_or, take, drop}
 use lib.Seq.{take-add, take_all, drop_at, drop-drop, get_or-take, get_or-drop}
 use mir.Syntax.{w64}
 use mir.Val.{Fits}
@@ -14,7 +14,7 @@ use borrow.Author.Tests.{eq-eqb, eqb-true}
 use Rattle.octets.specs.{Number.big_at, Number.if_there, Bytes.IsBytes, Bytes.big_bytes, Bytes.put_at, Code.Put.put_number}
 use Rattle.octets.proofs.{Digits.length_big, Digits.big_here, Digits.big_again, Places.same_big, Ranges.same_test, Truth.both}
 use Rattle.octets.proofs.{Reading.Told, Reading.is_bytes, Reading.if_there_lem}
-use Rattle.octets.proofs.Writing.{put_then, put_next, put_none, length_put}
+use Rattle.octets.proofs.Writing.{put_then}
 use Rattle.names.specs.Names.{same_bytes}
 use Rattle.names.proofs.Same.{same_eq, eq_same}
 use Rattle.record.specs.declared.Sixteen.{Sixteen}
@@ -86,22 +86,3 @@ sixteen_put d a f at z h p q =
     q ∙ ap (λ (l : List ℕ). put_at l (at + 8) (big_bytes 8 z.low)) p
     ∙ ap (λ (k : ℕ). put_at (put_at d at (big_bytes 8 z.high)) (at + k) (big_bytes 8 z.low)) (sym n)
     ∙ put_then d at (big_bytes 8 z.high) (big_bytes 8 z.low) (omega (arith, n, length_big 8 z.low))
-
--- zeros: i of n are put
-module _ (d e : List ℕ) (at i n : ℕ) (p : e ≡ put_at d at (replicate i 0)) where
-  pub clear_long : length e ≡ length d
-  clear_long = ap length p ∙ length_put d at (replicate i 0)
-
-  pub clear_next : i < n → at + n ≤ length d → set e (at + i) 0 ≡ put_at d at (replicate (i + 1) 0)
-  clear_next f h =
-      let l : length {A = ℕ} (replicate i 0) ≡ i = length-replicate i 0 in
-      ap (λ (x : List ℕ). set x (at + i) 0) p ∙ ap (λ (k : ℕ). set (put_at d at (replicate i 0)) (at + k) 0) (sym l)
-      ∙ put_next d at 0 (replicate i 0) (omega arith) ∙ ap (put_at d at) (replicate-append-replicate i 1 0)
-
-  pub clear_in : i < n → at + n ≤ length d → at + i < length e
-  clear_in f h = let l : length e ≡ length d = clear_long in omega arith
-
-  pub clear_end : i ≤ n → n ≤ i → e ≡ put_at d at (replicate n 0)
-  clear_end f g = let k : i ≡ n = omega arith in p ∙ ap (λ (j : ℕ). put_at d at (replicate j 0)) k
-
-pub ruleset clears = (put_none, clear_long, clear_in, clear_next, clear_end)

@@ -16,7 +16,8 @@ use Rattle.session.specs.{Centre.stored, Image.word_bytes, Image.session_image, 
 use Rattle.session.specs.Arrive.{with_station, with_centre, resumed, opened, begun_with}
 use Rattle.session.proofs.Image.{tested, image_back, Sized, sized, zeros_again, part_then}
 use Rattle.session.proofs.Stored.{put_part, set_right, highest_stored, lowest_stored, station_stored, centre_stored, state_stored, mark_stored}
-use Rattle.steps.specs.Code.Lies.{Lies}
+use Rattle.steps.specs.declared.side.Side.{Side, TheVariants.Station, TheVariants.Centre}
+use Rattle.steps.specs.Code.Lies.{Lies, side_ids, side_kinds, bound_place, entries_of, bound_of, with_side}
 use Rattle.steps.proofs.Knowing.{kept}
 
 -- a store after a store keeps the length
@@ -63,26 +64,37 @@ module _ (d : List ℕ) (l : Lies d) where
       bits : x ≡ bits_of 64 z
       bits = e ∙ ap (bits_of 64) (kept z m)
 
-      pub station_taken : a ≡ put_number d (24 + 8 * i) 8 (little_bytes 8 x) → f ≡ put_number (set a (280 + i) k) 8 8 (little_bytes 8 x)
+      station_taken : a ≡ put_number d (24 + 8 * i) 8 (little_bytes 8 x) → f ≡ put_number (set a (280 + i) k) 8 8 (little_bytes 8 x)
           → f ≡ session_image (with_station s z (taken s.station i z k))
       station_taken p q =
           q ∙ ap (λ (g : List ℕ). put_at (set g (280 + i) k) 8 (little_bytes 8 x)) p
           ∙ ap₂ (λ (g : List ℕ) (y : ℕ). put_at g 8 (little_bytes 8 y)) (station_entry x k z bits) bits
           ∙ highest_stored (with_station s s.highest (set s.station i (entry z k))) (station_with x k z bits) z
 
-      pub centre_taken : a ≡ put_number d (152 + 8 * i) 8 (little_bytes 8 x) → f ≡ put_number (set a (296 + i) k) 16 8 (little_bytes 8 x)
+      centre_taken : a ≡ put_number d (152 + 8 * i) 8 (little_bytes 8 x) → f ≡ put_number (set a (296 + i) k) 16 8 (little_bytes 8 x)
           → f ≡ session_image (with_centre s z (taken s.centre i z k))
       centre_taken p q =
           q ∙ ap (λ (g : List ℕ). put_at (set g (296 + i) k) 16 (little_bytes 8 x)) p
           ∙ ap₂ (λ (g : List ℕ) (y : ℕ). put_at g 16 (little_bytes 8 y)) (centre_entry x k z bits) bits
           ∙ lowest_stored (with_centre s s.lowest (set s.centre i (entry z k))) (centre_with x k z bits) z
 
+      -- of the side that the code has
+      pub side_taken : (v : Side) (ids kinds bound : ℕ) → ids ≡ side_ids v → kinds ≡ side_kinds v → bound ≡ bound_place v → a ≡ put_number d (ids + 8 * i) 8 (little_bytes 8 x)
+          → f ≡ put_number (set a (kinds + i) k) bound 8 (little_bytes 8 x) → f ≡ session_image (with_side v s z (taken (entries_of v s) i z k))
+      side_taken Station ids kinds bound o p r g h = station_taken (rw o at g) (rw (p, r) at h)
+      side_taken Centre ids kinds bound o p r g h = centre_taken (rw o at g) (rw (p, r) at h)
+
     module _ (a : List ℕ) where
-      pub station_freed : a ≡ put_number d (24 + 8 * i) 8 (little_bytes 8 0) → set a (280 + i) 0 ≡ session_image (with_station s s.highest (freed s.station i))
+      station_freed : a ≡ put_number d (24 + 8 * i) 8 (little_bytes 8 0) → set a (280 + i) 0 ≡ session_image (with_station s s.highest (freed s.station i))
       station_freed p = ap (λ (g : List ℕ). set g (280 + i) 0) p ∙ station_entry 0 0 (pos 0) refl
 
-      pub centre_freed : a ≡ put_number d (152 + 8 * i) 8 (little_bytes 8 0) → set a (296 + i) 0 ≡ session_image (with_centre s s.lowest (freed s.centre i))
+      centre_freed : a ≡ put_number d (152 + 8 * i) 8 (little_bytes 8 0) → set a (296 + i) 0 ≡ session_image (with_centre s s.lowest (freed s.centre i))
       centre_freed p = ap (λ (g : List ℕ). set g (296 + i) 0) p ∙ centre_entry 0 0 (pos 0) refl
+
+      pub side_freed : (v : Side) (ids kinds : ℕ) → ids ≡ side_ids v → kinds ≡ side_kinds v → a ≡ put_number d (ids + 8 * i) 8 (little_bytes 8 0)
+          → set a (kinds + i) 0 ≡ session_image (with_side v s (bound_of v s) (freed (entries_of v s) i))
+      side_freed Station ids kinds o p g = ap (λ (j : ℕ). set a (j + i) 0) p ∙ station_freed (rw o at g)
+      side_freed Centre ids kinds o p g = ap (λ (j : ℕ). set a (j + i) 0) p ∙ centre_freed (rw o at g)
 
   -- the state
   pub now_connecting : set d 344 1 ≡ session_image (resumed s)

@@ -3,21 +3,27 @@ ghost use mathlib.Core.{Path.◌≡◌, List.List, List.[]};
 ghost use Rattle.std.specs.Prelude.{true, false, not, ◌||◌, ℕ, length};
 ghost use Rattle.record.specs.Record.{sixteen_of};
 ghost use Rattle.session.specs.Arrive.{Outcome, is_below, highest_of, lowest_of, con_rsp_with, resumes, resumed, begun, takes_con, in_waiting, in_connecting};
-ghost use Rattle.session.specs.{Happened.is_begun, Happened.is_resumed, Image.session_at};
+ghost use Rattle.session.specs.{Image.session_at, declared.Happened.TheVariants.Begun, declared.Happened.TheVariants.Resumed};
 ghost use Rattle.steps.specs.Code.Lies.{Lies};
 ghost use Rattle.steps.specs.Called.{Called, called, called_by, host_of};
 
 use crate::bytes::{same_sixteen, sixteen_at};
 use crate::reply::con_rsp;
 use crate::stored::begin_anew;
-use crate::{Answer, done, happened, lies, refused};
+use crate::{Done, lies};
 use message::MaybeId;
-use octets::refusals;
 use record::{Body, Con, Message};
-use writer::Written;
+use refusal::Refusal;
+use session::Happened;
 
 // Waiting takes only con (17).
-pub fn in_waiting(d: &mut [u8], m: Message, sc_eui: u64, uuid: &[u8], room: &mut [u8]) -> Answer
+pub fn in_waiting(
+    d: &mut [u8],
+    m: Message,
+    sc_eui: u64,
+    uuid: &[u8],
+    room: &mut [u8],
+) -> Result<Done, Refusal>
     requires { Lies d.old × (length uuid.now ≡ 16) }
     ensures { ◌≡◌ {A = Called} (called result d.new room.new)
         (called_by d.old room.old (in_waiting (session_at d.old) m (host_of sc_eui uuid.now []))) }
@@ -26,29 +32,28 @@ pub fn in_waiting(d: &mut [u8], m: Message, sc_eui: u64, uuid: &[u8], room: &mut
     let b = m.body;
     match b {
         Body::Con(x) => takes_con(d, id, x, sc_eui, uuid, room),
-        Body::ConRsp(_) => refused(refusals::STATE),
-        Body::StatusRsp(_) => refused(refusals::STATE),
-        Body::Det(_) => refused(refusals::STATE),
-        Body::DetRsp(_) => refused(refusals::STATE),
-        Body::AttPrp(_) => refused(refusals::STATE),
-        Body::DetPrp(_) => refused(refusals::STATE),
-        Body::UlData(_) => refused(refusals::STATE),
-        Body::DlDataQue(_) => refused(refusals::STATE),
-        Body::Bare(_) => refused(refusals::STATE),
+        _ => Err(Refusal::State),
     }
 }
 
 // A con: 18 (opId must be 0), 16.
-fn takes_con(d: &mut [u8], id: i64, x: Con, sc_eui: u64, uuid: &[u8], room: &mut [u8]) -> Answer
+fn takes_con(
+    d: &mut [u8],
+    id: i64,
+    x: Con,
+    sc_eui: u64,
+    uuid: &[u8],
+    room: &mut [u8],
+) -> Result<Done, Refusal>
     requires { Lies d.old × (length uuid.now ≡ 16) }
     ensures { ◌≡◌ {A = Called} (called result d.new room.new)
         (called_by d.old room.old (takes_con (session_at d.old) id x (host_of sc_eui uuid.now []))) }
 {
     if id != 0 {
-        return refused(refusals::ID_OUT_OF_ORDER);
+        return Err(Refusal::IdOutOfOrder);
     }
     if (x.version.major != 1) | (x.version.minor != 0) {
-        return refused(refusals::VERSION);
+        return Err(Refusal::Version);
     }
     if resumes(d, x) {
         return resume(d, sc_eui, room);
@@ -57,6 +62,7 @@ fn takes_con(d: &mut [u8], id: i64, x: Con, sc_eui: u64, uuid: &[u8], room: &mut
 }
 
 // It resumes exactly if a session is stored with the same bsEui and snBsUuid, and no ID that it does not know.
+#[tactic(auto, using(crate::proofs::Knowing::resumes_is, crate::proofs::Storing::long))]
 fn resumes(d: &[u8], x: Con) -> bool
     requires { Lies d.now }
     ensures { result ≡ resumes (session_at d.now) x }
@@ -87,47 +93,47 @@ fn centre_known(d: &[u8], id: MaybeId) -> bool
     !id.here | (lies::lowest_of(d) <= id.value)
 }
 
-fn resume(d: &mut [u8], sc_eui: u64, room: &mut [u8]) -> Answer
+fn resume(d: &mut [u8], sc_eui: u64, room: &mut [u8]) -> Result<Done, Refusal>
     requires { Lies d.old }
     ensures { ◌≡◌ {A = Called} (called result d.new room.new)
-        (called_by d.old room.old (Outcome.replies is_resumed (resumed (session_at d.old)) (con_rsp_with sc_eui true (sixteen_of (session_at d.old).sn_sc_uuid)) [])) }
+        (called_by d.old room.old (Outcome.replies Resumed (resumed (session_at d.old)) (con_rsp_with sc_eui true (sixteen_of (session_at d.old).sn_sc_uuid)) [])) }
 {
     let own = sixteen_at(d, lies::SC_UUID);
-    let w = writer::reply(con_rsp(sc_eui, true, own), room);
-    match w {
-        Written::Refused(k) => refused(k),
-        Written::Whole(n) => {
-            d[lies::STATE] = lies::CONNECTING;
-            done(happened::RESUMED, n)
-        }
-    }
+    let length = writer::reply(con_rsp(sc_eui, true, own), room)?;
+    d[lies::STATE] = lies::CONNECTING;
+    Ok(Done {
+        happened: Happened::Resumed,
+        length,
+    })
 }
 
-fn anew(d: &mut [u8], x: Con, sc_eui: u64, uuid: &[u8], room: &mut [u8]) -> Answer
+fn anew(d: &mut [u8], x: Con, sc_eui: u64, uuid: &[u8], room: &mut [u8]) -> Result<Done, Refusal>
     requires { Lies d.old × (length uuid.now ≡ 16) }
     ensures { ◌≡◌ {A = Called} (called result d.new room.new)
-        (called_by d.old room.old (Outcome.replies is_begun (begun (host_of sc_eui uuid.now []) x) (con_rsp_with sc_eui false (sixteen_of uuid.now)) [])) }
+        (called_by d.old room.old (Outcome.replies Begun (begun (host_of sc_eui uuid.now []) x) (con_rsp_with sc_eui false (sixteen_of uuid.now)) [])) }
 {
     let own = sixteen_at(uuid, 0);
-    let w = writer::reply(con_rsp(sc_eui, false, own), room);
-    match w {
-        Written::Refused(k) => refused(k),
-        Written::Whole(n) => {
-            let station = x.sn_bs_uuid;
-            begin_anew(d, x.bs_eui, station, own);
-            done(happened::BEGUN, n)
-        }
-    }
+    let length = writer::reply(con_rsp(sc_eui, false, own), room)?;
+    let station = x.sn_bs_uuid;
+    begin_anew(d, x.bs_eui, station, own);
+    Ok(Done {
+        happened: Happened::Begun,
+        length,
+    })
 }
 
 // conCmp with ID 0 opens; all else is 17.
-pub fn in_connecting(d: &mut [u8], command: u8, id: i64) -> Answer
+#[tactic(auto, using(crate::proofs::Opening::openings, crate::proofs::Storing::long))]
+pub fn in_connecting(d: &mut [u8], command: u8, id: i64) -> Result<Done, Refusal>
     requires { Lies d.old }
     ensures { (room : List ℕ) → ◌≡◌ {A = Called} (called result d.new room) (called_by d.old room (in_connecting (session_at d.old) command id)) }
 {
     if (command == names::numbers::CON_CMP) & (id == 0) {
         d[lies::STATE] = lies::OPEN;
-        return done(happened::OPENED, 0);
+        return Ok(Done {
+            happened: Happened::Opened,
+            length: 0,
+        });
     }
-    refused(refusals::STATE)
+    Err(Refusal::State)
 }

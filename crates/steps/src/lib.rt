@@ -4,49 +4,29 @@
 
 mod bytes;
 mod connect;
-mod happened;
 mod issue;
 mod lies;
 mod operate;
 mod places;
 mod reply;
+mod side;
 mod stored;
 
 ghost use Rattle.std.specs.Prelude.{◌≡◌, length};
 ghost use Rattle.session.specs.{Arrive.in_state, Image.session_at};
 ghost use Rattle.steps.specs.Code.Lies.{Lies};
-ghost use Rattle.steps.specs.Called.{Called, called, refused_as, done_as, called_by, host_of, arrive_on, begin_on, lost_answer, lost_session};
+ghost use Rattle.steps.specs.Called.{Called, called, called_by, host_of, arrive_on, begin_on, lost_answer, lost_session};
 
 use bytes::four_of;
-use octets::refusals;
 use record::Message;
+use refusal::Refusal;
+use session::Happened;
 
-// Document 01's number and zeros besides; or what happened, and how many bytes stand in the room.
-#[derive(Clone, Copy)]
-pub struct Answer {
-    pub refusal: u8,
-    pub happened: u8,
+// A step that was taken: what happened, and how many bytes stand in the room.
+#[derive(Clone, Copy, Debug, PartialEq, Eq)]
+pub struct Done {
+    pub happened: Happened,
     pub length: usize,
-}
-
-fn refused(number: u8) -> Answer
-    ensures { result ≡ refused_as number }
-{
-    Answer {
-        refusal: number,
-        happened: 0,
-        length: 0,
-    }
-}
-
-fn done(happened: u8, length: usize) -> Answer
-    ensures { result ≡ done_as happened length }
-{
-    Answer {
-        refusal: 0,
-        happened,
-        length,
-    }
 }
 
 // A record arrives with the bytes lent beside it, and with what the host lends for the reply: its scEui, a new UUID of 16 bytes, a sign of 4. 15, then 17, 18, 19 (waiting: 17, 18,
@@ -59,17 +39,17 @@ pub fn arrive(
     uuid: &[u8],
     sign: &[u8],
     room: &mut [u8],
-) -> Answer
+) -> Result<Done, Refusal>
     ensures { ◌≡◌ {A = Called} (called result d.new room.new) (arrive_on d.old m lent.now sc_eui uuid.now sign.now room.old) }
 {
     if !lies::is_session(d) {
-        return refused(refusals::INVALID);
+        return Err(Refusal::Invalid);
     }
     if (uuid.len() != 16) | (sign.len() != 4) {
-        return refused(refusals::INVALID);
+        return Err(Refusal::Invalid);
     }
     if faults::fault(m, lent) != 0 {
-        return refused(refusals::INVALID);
+        return Err(Refusal::Invalid);
     }
     in_state(d, m, sc_eui, uuid, sign, room)
 }
@@ -81,7 +61,7 @@ fn in_state(
     uuid: &[u8],
     sign: &[u8],
     room: &mut [u8],
-) -> Answer
+) -> Result<Done, Refusal>
     requires { Lies d.old × (length uuid.now ≡ 16) × (length sign.now ≡ 4) }
     ensures { ◌≡◌ {A = Called} (called result d.new room.new)
         (called_by d.old room.old (in_state (session_at d.old).state (session_at d.old) m (host_of sc_eui uuid.now sign.now))) }
@@ -100,30 +80,36 @@ fn in_state(
 }
 
 // The centre starts an operation with this record, under the ID that it issues; 15 for bytes that are no session's, 17, 18, 19, 15, 20.
-pub fn begin(d: &mut [u8], m: Message, lent: &[u8], room: &mut [u8]) -> Answer
+pub fn begin(d: &mut [u8], m: Message, lent: &[u8], room: &mut [u8]) -> Result<Done, Refusal>
     ensures { ◌≡◌ {A = Called} (called result d.new room.new) (begin_on d.old m lent.now room.old) }
 {
     if !lies::is_session(d) {
-        return refused(refusals::INVALID);
+        return Err(Refusal::Invalid);
     }
     if d[lies::STATE] != lies::OPEN {
-        return refused(refusals::STATE);
+        return Err(Refusal::State);
     }
     let b = m.body;
     issue::begins(d, b, lent, room)
 }
 
 // The connection is lost: a session that was connecting or open is stored and waits; 15.
-pub fn lose(d: &mut [u8]) -> Answer
+pub fn lose(d: &mut [u8]) -> Result<Done, Refusal>
     ensures { (result ≡ lost_answer d.old) × (d.new ≡ lost_session d.old) }
 {
     if !lies::is_session(d) {
-        return refused(refusals::INVALID);
+        return Err(Refusal::Invalid);
     }
     if d[lies::STATE] == lies::WAITING {
-        return done(happened::NOTHING, 0);
+        return Ok(Done {
+            happened: Happened::Nothing,
+            length: 0,
+        });
     }
     d[lies::STATE] = lies::WAITING;
     d[lies::STORED] = 1;
-    done(happened::STORED, 0)
+    Ok(Done {
+        happened: Happened::Stored,
+        length: 0,
+    })
 }

@@ -1,5 +1,5 @@
 // A session where it lies: what its bytes say. The places are those of the C struct chz_session.
-ghost use Rattle.std.specs.Prelude.{◌≡◌, ◌+◌, ◌≤◌, length, drop};
+ghost use Rattle.std.specs.Prelude.{◌≡◌, ◌+◌, ◌≤◌, length};
 ghost use Rattle.session.specs.Arrive.{highest_of, lowest_of};
 ghost use Rattle.session.specs.Image.{id_at, session_at, are_zeros, is_session};
 ghost use Rattle.steps.specs.Code.Lies.{Lies};
@@ -31,6 +31,7 @@ pub const SPARE: usize = 346;
 // How many operations each side may have open.
 pub const PLACES: usize = 16;
 
+// The states, as bytes: an enum would be read from and written to this byte of the C struct at each place that names one, and say no more.
 pub const WAITING: u8 = 0;
 
 pub const CONNECTING: u8 = 1;
@@ -38,24 +39,21 @@ pub const CONNECTING: u8 = 1;
 pub const OPEN: u8 = 2;
 
 // Whether the bytes are some session's.
+#[tactic(auto, using(crate::proofs::Lying::session_short))]
 pub fn is_session(d: &[u8]) -> bool
     ensures { result ≡ is_session d.now }
 {
-    if d.len() != SIZE {
-        return false;
-    }
-    (d[STATE] < 3) & (d[STORED] < 2) & zeros_from(d, SPARE)
+    d.len() == SIZE && (d[STATE] < 3) & (d[STORED] < 2) & are_zeros(&d[SPARE..])
 }
 
-// Whether the bytes from a place on are zeros. No way out of the loop before its end, so that many bytes are tested at once.
-fn zeros_from(d: &[u8], from: usize) -> bool
-    ensures { result ≡ are_zeros (drop from d.now) }
+// Whether the bytes are zeros. No way out of the loop before its end, so that many bytes are tested at once.
+#[tactic(auto, using(crate::proofs::Lying::zeros_next, crate::proofs::Lying::zeros_end))]
+fn are_zeros(d: &[u8]) -> bool
+    ensures { result ≡ are_zeros d.now }
 {
     let mut ok = true;
-    let mut i = from;
-    while i < d.len() {
-        ok = ok & (d[i] == 0);
-        i += 1;
+    for b in d {
+        ok &= *b == 0;
     }
     ok
 }
@@ -69,25 +67,18 @@ pub fn id_at(d: &[u8], at: usize) -> i64
 }
 
 // Before any, both count as 0, as do a negative highest or a positive lowest handed in.
+#[tactic(auto, using(crate::proofs::Knowing::highest_max), unfolding(session::specs::Image::session_at))]
 pub fn highest_of(d: &[u8]) -> i64
     requires { Lies d.now }
     ensures { result ≡ highest_of (session_at d.now) }
 {
-    let id = id_at(d, HIGHEST);
-    if id < 0 {
-        return 0;
-    }
-    id
+    id_at(d, HIGHEST).max(0)
 }
 
-#[tactic(auto, using(crate::proofs::Knowing::lowest_zero, crate::proofs::Knowing::lowest_kept), unfolding(session::specs::Image::session_at))]
+#[tactic(auto, using(crate::proofs::Knowing::lowest_min), unfolding(session::specs::Image::session_at))]
 pub fn lowest_of(d: &[u8]) -> i64
     requires { Lies d.now }
     ensures { result ≡ lowest_of (session_at d.now) }
 {
-    let id = id_at(d, LOWEST);
-    if 0 < id {
-        return 0;
-    }
-    id
+    id_at(d, LOWEST).min(0)
 }

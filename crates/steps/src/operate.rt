@@ -9,12 +9,19 @@ ghost use Rattle.steps.specs.Called.{Called, called, called_by};
 
 use crate::places::{free_place, place_of};
 use crate::reply::{bare, rsp};
-use crate::{Answer, done, happened, lies, refused, stored};
+use crate::side::Side;
+use crate::{Done, lies, stored};
 use names::numbers;
-use octets::refusals;
-use writer::Written;
+use refusal::Refusal;
+use session::Happened;
 
-pub fn in_open(d: &mut [u8], sign: u32, command: u8, id: i64, room: &mut [u8]) -> Answer
+pub fn in_open(
+    d: &mut [u8],
+    sign: u32,
+    command: u8,
+    id: i64,
+    room: &mut [u8],
+) -> Result<Done, Refusal>
     requires { Lies d.old }
     ensures { ◌≡◌ {A = Called} (called result d.new room.new)
         (called_by d.old room.old (in_open (session_at d.old) sign command id)) }
@@ -37,72 +44,83 @@ pub fn in_open(d: &mut [u8], sign: u32, command: u8, id: i64, room: &mut [u8]) -
             id,
             room,
         ),
-        _ => refused(refusals::STATE),
+        _ => Err(Refusal::State),
     }
 }
 
 // A station starts with an ID above the highest known and above 0 (18).
-fn starts(d: &mut [u8], start: u8, answer: u8, sign: u32, id: i64, room: &mut [u8]) -> Answer
+fn starts(
+    d: &mut [u8],
+    start: u8,
+    answer: u8,
+    sign: u32,
+    id: i64,
+    room: &mut [u8],
+) -> Result<Done, Refusal>
     requires { Lies d.old × (is_reply answer ≡ true) }
     ensures { ◌≡◌ {A = Called} (called result d.new room.new)
         (called_by d.old room.old (starts (session_at d.old) sign (started_by start answer) id)) }
 {
     if id <= lies::highest_of(d) {
-        return refused(refusals::ID_OUT_OF_ORDER);
+        return Err(Refusal::IdOutOfOrder);
     }
     start_at(d, start, answer, sign, id, room)
 }
 
 // With a free place (19); the reply is the Rsp.
-fn start_at(d: &mut [u8], start: u8, answer: u8, sign: u32, id: i64, room: &mut [u8]) -> Answer
+fn start_at(
+    d: &mut [u8],
+    start: u8,
+    answer: u8,
+    sign: u32,
+    id: i64,
+    room: &mut [u8],
+) -> Result<Done, Refusal>
     requires { Lies d.old × (is_reply answer ≡ true) }
     ensures { ◌≡◌ {A = Called} (called result d.new room.new)
         (called_by d.old room.old (start_at (session_at d.old) sign (started_by start answer) id (free_place (session_at d.old).station))) }
 {
-    let i = free_place(d, lies::STATION_IDS);
-    if i == lies::PLACES {
-        return refused(refusals::SIXTEEN_OPEN);
-    }
-    let w = writer::reply(rsp(sign, answer, id), room);
-    match w {
-        Written::Refused(k) => refused(k),
-        Written::Whole(n) => {
-            stored::take_station(d, i, id, start);
-            done(happened::STARTED, n)
-        }
-    }
+    let Some(i) = free_place(d, Side::Station) else {
+        return Err(Refusal::SixteenOpen);
+    };
+    let length = writer::reply(rsp(sign, answer, id), room)?;
+    stored::take(d, Side::Station, i, id, start);
+    Ok(Done {
+        happened: Happened::Started,
+        length,
+    })
 }
 
 // The entry is freed by a Cmp of the same kind and ID.
-fn completes(d: &mut [u8], start: u8, id: i64) -> Answer
+#[tactic(auto, using(crate::proofs::Branches::branches, crate::proofs::Storing::long))]
+fn completes(d: &mut [u8], start: u8, id: i64) -> Result<Done, Refusal>
     requires { Lies d.old }
     ensures { (room : List ℕ) → ◌≡◌ {A = Called} (called result d.new room)
         (called_by d.old room (complete_at (session_at d.old) (entry_place id start (session_at d.old).station))) }
 {
-    let i = place_of(d, lies::STATION_IDS, lies::STATION_KINDS, id, start);
-    if i == lies::PLACES {
-        return refused(refusals::STATE);
-    }
-    stored::free_station(d, i);
-    done(happened::COMPLETED, 0)
+    let Some(i) = place_of(d, Side::Station, id, start) else {
+        return Err(Refusal::State);
+    };
+    stored::free(d, Side::Station, i);
+    Ok(Done {
+        happened: Happened::Completed,
+        length: 0,
+    })
 }
 
 // A matching Rsp is replied to with Cmp and frees the entry.
-fn answers(d: &mut [u8], start: u8, complete: u8, id: i64, room: &mut [u8]) -> Answer
+fn answers(d: &mut [u8], start: u8, complete: u8, id: i64, room: &mut [u8]) -> Result<Done, Refusal>
     requires { Lies d.old × (is_bare complete ≡ true) }
     ensures { ◌≡◌ {A = Called} (called result d.new room.new)
         (called_by d.old room.old (respond_at (session_at d.old) (ended_by start complete) id (entry_place id start (session_at d.old).centre))) }
 {
-    let i = place_of(d, lies::CENTRE_IDS, lies::CENTRE_KINDS, id, start);
-    if i == lies::PLACES {
-        return refused(refusals::STATE);
-    }
-    let w = writer::reply(bare(complete, id), room);
-    match w {
-        Written::Refused(k) => refused(k),
-        Written::Whole(n) => {
-            stored::free_centre(d, i);
-            done(happened::ANSWERED, n)
-        }
-    }
+    let Some(i) = place_of(d, Side::Centre, id, start) else {
+        return Err(Refusal::State);
+    };
+    let length = writer::reply(bare(complete, id), room)?;
+    stored::free(d, Side::Centre, i);
+    Ok(Done {
+        happened: Happened::Answered,
+        length,
+    })
 }

@@ -37,6 +37,7 @@ pub fn con_rsp(sc_eui: u64, resumed: bool, uuid: record::Sixteen) -> Message
 }
 
 // The answer to a station's start: detRsp carries the host's sign.
+#[tactic(auto, using(crate::proofs::Replies::replies))]
 pub fn rsp(sign: u32, command: u8, id: i64) -> Message
     ensures { result ≡ rsp_of sign command id }
 {

@@ -1,54 +1,39 @@
 // What a step stores: nothing but the bytes that it names.
 ghost use Rattle.std.specs.Prelude.{◌≡◌, ◌<◌};
 ghost use Rattle.record.specs.Says.{sixteen_bytes};
-ghost use Rattle.session.specs.{Place.taken, Place.freed, Arrive.with_station, Arrive.with_centre, Arrive.begun_with};
+ghost use Rattle.session.specs.{Place.taken, Place.freed, Arrive.begun_with};
 ghost use Rattle.session.specs.{Image.session_image, Image.session_at};
-ghost use Rattle.steps.specs.Code.Lies.{Lies};
+ghost use Rattle.steps.specs.Code.Lies.{Lies, entries_of, bound_of, with_side};
 
-use crate::bytes::{clear, put_sixteen};
+use crate::bytes::put_sixteen;
 use crate::lies;
-use octets::{bits_of, put_little};
+use crate::side::Side;
+use octets::{bits_of, clear, put_little};
 use record::Sixteen;
 
 // The highest and the lowest ID, and the entries of both sides: so many bytes between bsEui and the UUIDs.
 const OPERATIONS: usize = 304;
 
-// A place is taken by an operation of the station, whose ID is the highest known.
-pub fn take_station(d: &mut [u8], i: usize, id: i64, kind: u8)
+// A place is taken by an operation of a side, whose ID is the side's bound from then on.
+#[tactic(auto, using(crate::proofs::Storing::in_bytes, crate::proofs::Storing::side_taken))]
+pub fn take(d: &mut [u8], side: Side, i: usize, id: i64, kind: u8)
     requires { Lies d.old × (i < 16) }
-    ensures { d.new ≡ session_image (with_station (session_at d.old) id (taken (session_at d.old).station i id kind)) }
+    ensures { d.new ≡ session_image (with_side side (session_at d.old) id (taken (entries_of side (session_at d.old)) i id kind)) }
 {
     let bits = bits_of(id);
-    put_little(d, lies::STATION_IDS + 8 * i, 8, bits);
-    d[lies::STATION_KINDS + i] = kind;
-    put_little(d, lies::HIGHEST, 8, bits);
+    put_little(d, side.ids() + 8 * i, 8, bits);
+    d[side.kinds() + i] = kind;
+    put_little(d, side.bound(), 8, bits);
 }
 
-pub fn free_station(d: &mut [u8], i: usize)
+// A place is free again; the bound stays.
+#[tactic(auto, using(crate::proofs::Storing::in_bytes, crate::proofs::Storing::side_freed))]
+pub fn free(d: &mut [u8], side: Side, i: usize)
     requires { Lies d.old × (i < 16) }
-    ensures { d.new ≡ session_image (with_station (session_at d.old) (session_at d.old).highest (freed (session_at d.old).station i)) }
+    ensures { d.new ≡ session_image (with_side side (session_at d.old) (bound_of side (session_at d.old)) (freed (entries_of side (session_at d.old)) i)) }
 {
-    put_little(d, lies::STATION_IDS + 8 * i, 8, 0);
-    d[lies::STATION_KINDS + i] = 0;
-}
-
-// A place is taken by an operation of the centre, whose ID is the lowest issued.
-pub fn take_centre(d: &mut [u8], i: usize, id: i64, kind: u8)
-    requires { Lies d.old × (i < 16) }
-    ensures { d.new ≡ session_image (with_centre (session_at d.old) id (taken (session_at d.old).centre i id kind)) }
-{
-    let bits = bits_of(id);
-    put_little(d, lies::CENTRE_IDS + 8 * i, 8, bits);
-    d[lies::CENTRE_KINDS + i] = kind;
-    put_little(d, lies::LOWEST, 8, bits);
-}
-
-pub fn free_centre(d: &mut [u8], i: usize)
-    requires { Lies d.old × (i < 16) }
-    ensures { d.new ≡ session_image (with_centre (session_at d.old) (session_at d.old).lowest (freed (session_at d.old).centre i)) }
-{
-    put_little(d, lies::CENTRE_IDS + 8 * i, 8, 0);
-    d[lies::CENTRE_KINDS + i] = 0;
+    put_little(d, side.ids() + 8 * i, 8, 0);
+    d[side.kinds() + i] = 0;
 }
 
 // IDs and open operations are cleared; bsEui, snBsUuid and the host's new UUID are taken.

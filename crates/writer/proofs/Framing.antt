@@ -20,7 +20,8 @@ use Rattle.record.specs.declared.Message.{Message}
 use Rattle.record.proofs.Payloads.{frame_most_lem, payload_most}
 use Rattle.writer.specs.Code.Parts.{has_data, body_parts, with_head}
 use Rattle.writer.specs.Write.{Sent, sent, framed, written}
-use Rattle.writer.specs.declared.Written.{Written, TheVariants.Whole, TheVariants.Refused}
+use Rattle.std.specs.Prelude.{Result, Ok, Err}
+use Rattle.refusal.specs.declared.Refusal.{Refusal, TheVariants.Invalid, TheVariants.RoomTooShort}
 use Rattle.writer.proofs.Payloads.{payload_bytes, fits_named, fits_data}
 
 -- what is put in front of bytes that stand there
@@ -71,15 +72,15 @@ frame_length d = omega (arith, length-append (little_bytes 4 (length d)) d, leng
 
 -- a frame that is made, with place for it and without
 module _ (made room : List ℕ) where
-  framed_whole : (after : List ℕ) (n : ℕ) → n ≡ length made → length made ≤ length room → after ≡ put_at room 0 made → sent (Whole n) after ≡ framed made room
+  framed_whole : (after : List ℕ) (n : ℕ) → n ≡ length made → length made ≤ length room → after ≡ put_at room 0 made → sent (Ok n) after ≡ framed made room
   unfolding framed
   framed_whole after n e h p = rw (le-leb (length made) (length room) h, e, p)
 
-  pub delivered : (after : List ℕ) (r : ℕ) → length made ≤ length room → put after r ≡ put_parts (made ∷ []) (put room 0) → sent (Whole (length made)) after ≡ framed made room
+  pub delivered : (after : List ℕ) (r : ℕ) → length made ≤ length room → put after r ≡ put_parts (made ∷ []) (put room 0) → sent (Ok (length made)) after ≡ framed made room
   unfolding put_parts
   delivered after r h e = framed_whole after (length made) refl h (ap (λ (o : Put). o.room) (e ∙ part_in room 0 made (omega arith)))
 
-  pub too_short : length room < length made → sent (Refused 20) room ≡ framed made room
+  pub too_short : length room < length made → sent (Err RoomTooShort) room ≡ framed made room
   unfolding framed
   too_short h = rw (lt-leb (length made) (length room) h)
 
@@ -128,7 +129,7 @@ module _ (m : Message) (d : List ℕ) (f : true ≡ fits m d) where
     frame_put : (after : List ℕ) → after ≡ with_head room n → after ≡ put_at old 0 (frame_for m d)
     frame_put after g = head_before old room after (payload_for m d) n place (ap (λ (o : Put). o.room) all_put) size g
 
-    pub put_whole : (after : List ℕ) → after ≡ with_head room n → sent (Whole n) after ≡ framed (frame_for m d) old
+    pub put_whole : (after : List ℕ) → after ≡ with_head room n → sent (Ok n) after ≡ framed (frame_for m d) old
     put_whole after g = framed_whole (frame_for m d) old after n long l (frame_put after g)
 
     -- made elsewhere, and then put into its place
@@ -145,7 +146,7 @@ module _ (m : Message) (d : List ℕ) (f : true ≡ fits m d) where
           ap₂ (λ (i : ℕ) (s : List ℕ). take i s) k (frame_put made g)
           ∙ put_upto old 0 (frame_for m d) (omega (arith, l))
 
-      pub put_made : (room after : List ℕ) (r : Written) → sent r after ≡ framed (take n made) room → sent r after ≡ framed (frame_for m d) room
+      pub put_made : (room after : List ℕ) (r : Result ℕ Refusal) → sent r after ≡ framed (take n made) room → sent r after ≡ framed (frame_for m d) room
       put_made room after r e = rw made_there at e
 
 -- the test before it
@@ -153,7 +154,7 @@ module _ (m : Message) (d : List ℕ) (r : ℕ) (e : r ≡ fault_in m d) where
   pub fitting : r ≡ 0 → true ≡ fits m d
   fitting z = sym (eq-eqb (fault_in m d) 0 (sym e ∙ z))
 
-  pub written_15 : (room : List ℕ) → (r ≡ 0 → ⊥) → sent (Refused 15) room ≡ written m d room
+  pub written_15 : (room : List ℕ) → (r ≡ 0 → ⊥) → sent (Err Invalid) room ≡ written m d room
   unfolding written
   written_15 room n = rw (ne_eqb (fault_in m d) 0 (λ z. n (e ∙ z)))
 

@@ -40,14 +40,17 @@ pub code_wide : (z : ℤ) → SFits w32 z → SFits w64 (to_z w32 (of_z w32 z))
 code_wide z f = rw (to_z-of_z w32 z f) (record { sfits = let h : mag z < 2 ^ 31 = f.sfits in omega arith })
 
 -- a signed number is handed on in its bits
-module _ (k : List ℕ) (a b c : Put) (z : ℤ) (e : b ≡ put_parts (k ∷ []) a) where
-  pub pair_id : (here : Bool) → SFits w64 z → not here ≡ false → c ≡ put_parts (whole_parts (to_z w64 (of_z w64 z))) b → c ≡ put_parts (pair_part here k (whole_parts z)) a
-  pair_id here f h g = pair_put k (whole_parts z) a b c here h e (rw (to_z-of_z w64 z f) at g)
+module _ (a b : Put) (z : ℤ) where
+  pub signed_put : SFits w64 z → b ≡ put_parts (whole_parts (to_z w64 (of_z w64 z))) a → b ≡ put_parts (whole_parts z) a
+  signed_put f g = rw (to_z-of_z w64 z f) at g
 
-  pub pair_code : SFits w32 z → c ≡ put_parts (whole_parts (to_z w64 (of_z w64 (to_z w32 (of_z w32 z))))) b → c ≡ put_parts (pair_part true k (whole_parts z)) a
-  pair_code f g = pair_always k (whole_parts z) a b c e (rw (to_z-of_z w64 (to_z w32 (of_z w32 z)) (code_wide z f), to_z-of_z w32 z f) at g)
+  pub code_put : SFits w32 z → b ≡ put_parts (whole_parts (to_z w64 (of_z w64 (to_z w32 (of_z w32 z))))) a → b ≡ put_parts (whole_parts z) a
+  code_put f g = rw (to_z-of_z w64 (to_z w32 (of_z w32 z)) (code_wide z f), to_z-of_z w32 z f) at g
 
-pub ruleset pairs = (pair_none, pair_always, pair_put, pair_id, pair_code, code_wide)
+  pub pair_id : (k : List ℕ) (here : Bool) → SFits w64 z → b ≡ put_parts (pair_part here k (whole_parts (to_z w64 (of_z w64 z)))) a → b ≡ put_parts (pair_part here k (whole_parts z)) a
+  pair_id k here f g = rw (to_z-of_z w64 z f) at g
+
+pub ruleset pairs = (pair_none, pair_always, pair_put)
 
 -- fields one behind the other: two to five
 module _ (ps : List (List ℕ)) (a b : Put) (e : b ≡ put_parts ps a) where

@@ -34,8 +34,8 @@ fn station(room: &mut [u8], at: usize, x: Con) -> usize
     let v = x.version;
     let g = x.geo_location;
     let a = pair::version(room, at, b"\xA7version", v);
-    let b = pair::word(room, a, true, b"\xA5bsEui", x.bs_eui);
-    let c = pair::mark(room, b, b"\xA4bidi", x.bidi);
+    let b = pair::field(room, a, true, b"\xA5bsEui", x.bs_eui);
+    let c = pair::field(room, b, true, b"\xA4bidi", x.bidi);
     pair::position(room, c, b"\xABgeoLocation", g)
 }
 
@@ -62,7 +62,7 @@ fn centre(room: &mut [u8], at: usize, x: ConRsp) -> usize
     let v = x.version;
     let u = x.sn_sc_uuid;
     let a = pair::version(room, at, b"\xA7version", v);
-    let b = pair::word(room, a, true, b"\xA5scEui", x.sc_eui);
-    let c = pair::mark(room, b, b"\xA8snResume", x.sn_resume);
+    let b = pair::field(room, a, true, b"\xA5scEui", x.sc_eui);
+    let c = pair::field(room, b, true, b"\xA8snResume", x.sn_resume);
     pair::sixteen(room, c, b"\xA8snScUuid", u)
 }

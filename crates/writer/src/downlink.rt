@@ -56,9 +56,9 @@ fn queue(room: &mut [u8], at: usize, x: DlDataQue, d: &[u8]) -> usize
     requires { (x.entries ≤ 16) × (80 + sum_of (lengths_lent x.entries d.now) ≤ length d.now) }
     ensures { ◌≡◌ {A = Put} (put room.new result) (put_parts (queue_parts x d.now) (put room.old at)) }
 {
-    let a = pair::word(room, at, true, b"\xA5epEui", x.ep_eui);
-    let b = pair::word(room, a, true, b"\xA5queId", x.que_id);
-    let c = pair::mark(room, b, b"\xA9cntDepend", x.cnt_depend);
+    let a = pair::field(room, at, true, b"\xA5epEui", x.ep_eui);
+    let b = pair::field(room, a, true, b"\xA5queId", x.que_id);
+    let c = pair::field(room, b, true, b"\xA9cntDepend", x.cnt_depend);
     let e = pair::counters(room, c, x.cnt_depend, b"\xA9packetCnt", d, x.entries);
     pair::pieces(room, e, b"\xA8userData", d, x.entries)
 }
@@ -67,33 +67,33 @@ fn queue(room: &mut [u8], at: usize, x: DlDataQue, d: &[u8]) -> usize
 fn weight(room: &mut [u8], at: usize, format: u8, prior: bool, prio: f64) -> usize
     ensures { ◌≡◌ {A = Put} (put room.new result) (put_parts (weight_parts format prior prio) (put room.old at)) }
 {
-    let a = pair::word(room, at, format != 0, b"\xA6format", format as u64);
-    pair::real(room, a, prior, b"\xA4prio", prio)
+    let a = pair::field(room, at, format != 0, b"\xA6format", format as u64);
+    pair::field(room, a, prior, b"\xA4prio", prio)
 }
 
 fn wishes(room: &mut [u8], at: usize, x: DlDataQue) -> usize
     ensures { ◌≡◌ {A = Put} (put room.new result) (put_parts (wishes_parts x) (put room.old at)) }
 {
-    let a = pair::maybe_mark(
+    let a = pair::field(
         room,
         at,
-        b"\xABresponseExp",
         x.response_exp.here,
+        b"\xABresponseExp",
         x.response_exp.value,
     );
-    let b = pair::maybe_mark(
+    let b = pair::field(
         room,
         a,
-        b"\xACresponsePrio",
         x.response_prio.here,
+        b"\xACresponsePrio",
         x.response_prio.value,
     );
-    let c = pair::maybe_mark(
+    let c = pair::field(
         room,
         b,
-        b"\xA9dlWindReq",
         x.dl_wind_req.here,
+        b"\xA9dlWindReq",
         x.dl_wind_req.value,
     );
-    pair::maybe_mark(room, c, b"\xA7expOnly", x.exp_only.here, x.exp_only.value)
+    pair::field(room, c, x.exp_only.here, b"\xA7expOnly", x.exp_only.value)
 }

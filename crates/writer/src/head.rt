@@ -14,7 +14,7 @@ fn one(b: bool) -> u8
     if b { 1 } else { 0 }
 }
 
-// How many pairs a message has: those that it always has, and of five optional ones those that are there.
+// How many pairs a message has: those that it always has, and of five optional ones those that are there. No array of them: the sum would be no plainer.
 pub fn count(always: u8, a: bool, b: bool, c: bool, d: bool, e: bool) -> u8
     requires { always < 16 }
     ensures value { result ≡ pairs_present always a b c d e }

@@ -17,35 +17,28 @@ ghost use Rattle.writer.specs.Code.Parts.{with_head};
 ghost use Rattle.writer.specs.Write.{Sent, sent, framed, written};
 
 use frame::HEAD;
-use octets::refusals;
 use payload::{payload, reply_payload};
 use record::Message;
+use refusal::Refusal;
 
 // So many bytes have place for any frame, and for any that a session replies with.
 pub const MOST_FRAME: usize = 1909;
 
 pub const MOST_REPLY: usize = 145;
 
-// A frame and its length, or document 01's refusal 15 or 20.
-#[derive(Clone, Copy)]
-pub enum Written {
-    Whole(usize),
-    Refused(u8),
-}
-
-// A record with the bytes d that are lent beside it, as a whole frame at the start of the room; the rest of the room stays. A record outside its
+// A record with the bytes d that are lent beside it, as a whole frame at the start of the room: its length; the rest of the room stays. A record outside its
 // ranges is refused with 15, then a room shorter than the frame with 20, and the room is as it was. Any contents may be handed in.
-pub fn write(m: Message, d: &[u8], room: &mut [u8]) -> Written
+pub fn write(m: Message, d: &[u8], room: &mut [u8]) -> Result<usize, Refusal>
     ensures { ◌≡◌ {A = Sent} (sent result room.new) (written m d.now room.old) }
 {
     if faults::fault(m, d) != 0 {
-        return Written::Refused(refusals::INVALID);
+        return Err(Refusal::Invalid);
     }
     put(m, d, room)
 }
 
 // A record that is known to fit, as a whole frame at the start of the room; 20 where the room is shorter.
-pub fn put(m: Message, d: &[u8], room: &mut [u8]) -> Written
+pub fn put(m: Message, d: &[u8], room: &mut [u8]) -> Result<usize, Refusal>
     requires { true ≡ fits m d.now }
     ensures { ◌≡◌ {A = Sent} (sent result room.new) (framed (frame_for m d.now) room.old) }
 {
@@ -54,11 +47,11 @@ pub fn put(m: Message, d: &[u8], room: &mut [u8]) -> Written
     }
     let end = payload(room, HEAD, m, d);
     frame(room, end);
-    Written::Whole(end)
+    Ok(end)
 }
 
 // In a room that may be too short: the frame is made elsewhere first.
-fn put_short(m: Message, d: &[u8], room: &mut [u8]) -> Written
+fn put_short(m: Message, d: &[u8], room: &mut [u8]) -> Result<usize, Refusal>
     requires { true ≡ fits m d.now }
     ensures { ◌≡◌ {A = Sent} (sent result room.new) (framed (frame_for m d.now) room.old) }
 {
@@ -69,7 +62,7 @@ fn put_short(m: Message, d: &[u8], room: &mut [u8]) -> Written
 }
 
 // The same of a record that a session replies with. Its frame is short, so it is made elsewhere in every room.
-pub fn reply(m: Message, room: &mut [u8]) -> Written
+pub fn reply(m: Message, room: &mut [u8]) -> Result<usize, Refusal>
     requires { (true ≡ fits m []) × (frame_most m.body ≤ 145) }
     ensures { ◌≡◌ {A = Sent} (sent result room.new) (framed (frame_for m []) room.old) }
 {
@@ -80,15 +73,15 @@ pub fn reply(m: Message, room: &mut [u8]) -> Written
 }
 
 // A frame that is made, where it has place.
-fn deliver(made: &[u8], room: &mut [u8]) -> Written
+fn deliver(made: &[u8], room: &mut [u8]) -> Result<usize, Refusal>
     ensures { ◌≡◌ {A = Sent} (sent result room.new) (framed made.now room.old) }
 {
     let size = made.len();
     if room.len() < size {
-        return Written::Refused(refusals::ROOM_TOO_SHORT);
+        return Err(Refusal::RoomTooShort);
     }
     forms::put_run(room, 0, made);
-    Written::Whole(size)
+    Ok(size)
 }
 
 // The 12 bytes in front of a payload that ends at a place.

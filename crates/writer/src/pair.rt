@@ -1,6 +1,6 @@
 // A key and its value. The key is lent with its length in front, as it is written; where the field is not there nothing is written.
-ghost use mathlib.Core.{Path.◌≡◌, Bool.true, Bool.not};
-ghost use Rattle.std.specs.Prelude.{◌+◌, ◌≤◌};
+ghost use mathlib.Core.{Path.◌≡◌, Bool.true, Bool.not, List.List};
+ghost use Rattle.std.specs.Prelude.{ℕ, ◌+◌, ◌≤◌};
 ghost use lib.{Dec.eqb, IntN.pos, ListN.length, ListN.take};
 ghost use Rattle.octets.specs.{Bytes.big_bytes, Pieces.counters_lent, Pieces.lengths_lent, Pieces.pieces_lent, Pieces.sum_of};
 ghost use Rattle.forms.specs.Code.Put.{Put, put, put_parts, whole_parts, real_parts, mark_parts, text_parts, numbers_parts, pieces_parts};
@@ -9,60 +9,76 @@ ghost use Rattle.writer.specs.Code.Parts.{text, pair_part, id_part, position_par
 
 use record::Sixteen;
 
-pub fn word(room: &mut [u8], at: usize, here: bool, key: &[u8], x: u64) -> usize
-    ensures { ◌≡◌ {A = Put} (put room.new result) (put_parts (pair_part here key.now (whole_parts (pos x))) (put room.old at)) }
+// A value as it is written behind its key.
+pub trait Value: Copy {
+    // The parts of its bytes.
+    ghost parts: { Self → List (List ℕ) };
+
+    fn write(self, room: &mut [u8], at: usize) -> usize
+        ensures { ◌≡◌ {A = Put} (put room.new result) (put_parts (parts self) (put room.old at)) };
+}
+
+impl Value for u64 {
+    ghost parts = { λ x. whole_parts (pos x) };
+
+    fn write(self, room: &mut [u8], at: usize) -> usize {
+        forms::put_word(room, at, self)
+    }
+}
+
+impl Value for i64 {
+    ghost parts = { λ x. whole_parts x };
+
+    #[tactic(auto, using(crate::proofs::Putting::signed_put))]
+    fn write(self, room: &mut [u8], at: usize) -> usize {
+        forms::put_id(room, at, self)
+    }
+}
+
+impl Value for i32 {
+    ghost parts = { λ x. whole_parts x };
+
+    #[tactic(auto, using(crate::proofs::Putting::code_put, crate::proofs::Putting::code_wide))]
+    fn write(self, room: &mut [u8], at: usize) -> usize {
+        forms::put_id(room, at, i64::from(self))
+    }
+}
+
+impl Value for bool {
+    ghost parts = { λ x. mark_parts x };
+
+    fn write(self, room: &mut [u8], at: usize) -> usize {
+        forms::put_mark(room, at, self)
+    }
+}
+
+impl Value for f64 {
+    ghost parts = { λ x. real_parts x };
+
+    fn write(self, room: &mut [u8], at: usize) -> usize {
+        forms::put_real(room, at, self)
+    }
+}
+
+#[tactic(auto, using(crate::proofs::Putting::pairs))]
+pub fn field<V: Value>(room: &mut [u8], at: usize, here: bool, key: &[u8], x: V) -> usize
+    ensures { ◌≡◌ {A = Put} (put room.new result) (put_parts (pair_part here key.now (V.parts x)) (put room.old at)) }
 {
     if !here {
         return at;
     }
     let next = forms::put_run(room, at, key);
-    forms::put_word(room, next, x)
+    x.write(room, next)
 }
 
+#[tactic(auto, using(crate::proofs::Putting::pair_id))]
 pub fn id(room: &mut [u8], at: usize, key: &[u8], x: message::MaybeId) -> usize
     ensures { ◌≡◌ {A = Put} (put room.new result) (put_parts (id_part key.now x) (put room.old at)) }
 {
-    if !x.here {
-        return at;
-    }
-    let next = forms::put_run(room, at, key);
-    forms::put_id(room, next, x.value)
+    field(room, at, x.here, key, x.value)
 }
 
-pub fn code(room: &mut [u8], at: usize, key: &[u8], x: i32) -> usize
-    ensures { ◌≡◌ {A = Put} (put room.new result) (put_parts (pair_part true key.now (whole_parts x)) (put room.old at)) }
-{
-    let next = forms::put_run(room, at, key);
-    forms::put_id(room, next, x as i64)
-}
-
-pub fn mark(room: &mut [u8], at: usize, key: &[u8], x: bool) -> usize
-    ensures { ◌≡◌ {A = Put} (put room.new result) (put_parts (pair_part true key.now (mark_parts x)) (put room.old at)) }
-{
-    let next = forms::put_run(room, at, key);
-    forms::put_mark(room, next, x)
-}
-
-pub fn maybe_mark(room: &mut [u8], at: usize, key: &[u8], here: bool, x: bool) -> usize
-    ensures { ◌≡◌ {A = Put} (put room.new result) (put_parts (pair_part here key.now (mark_parts x)) (put room.old at)) }
-{
-    if !here {
-        return at;
-    }
-    let next = forms::put_run(room, at, key);
-    forms::put_mark(room, next, x)
-}
-
-pub fn real(room: &mut [u8], at: usize, here: bool, key: &[u8], x: f64) -> usize
-    ensures { ◌≡◌ {A = Put} (put room.new result) (put_parts (pair_part here key.now (real_parts x)) (put room.old at)) }
-{
-    if !here {
-        return at;
-    }
-    let next = forms::put_run(room, at, key);
-    forms::put_real(room, next, x)
-}
-
+// Of lent bytes the first n are written, counters and data entries under a requires: so these are no `Value`, which is all of what is written.
 // The first n bytes of d, as an array of numbers.
 pub fn octets(room: &mut [u8], at: usize, key: &[u8], d: &[u8], n: u8) -> usize
     ensures { ◌≡◌ {A = Put} (put room.new result) (put_parts (pair_part true key.now (numbers_parts (take n d.now))) (put room.old at)) }

@@ -9,7 +9,7 @@ ghost use Rattle.writer.specs.Code.Parts.{has_data, body_parts};
 use crate::connect::{con, con_rsp};
 use crate::downlink::dl_data_que;
 use crate::head::{bare, title};
-use crate::pair::{four, word};
+use crate::pair::{field, four};
 use crate::propagate::att_prp;
 use crate::received::{det, ul_data};
 use crate::status::status_rsp;
@@ -65,5 +65,5 @@ fn det_prp(room: &mut [u8], at: usize, op_id: i64, eui: u64) -> usize
     ensures { ◌≡◌ {A = Put} (put room.new result) (put_parts (body_parts op_id (Body.DetPrp eui) []) (put room.old at)) }
 {
     let a = title(room, at, 3, b"\xA7command\xA6detPrp\xA4opId", op_id);
-    word(room, a, true, b"\xA5epEui", eui)
+    field(room, a, true, b"\xA5epEui", eui)
 }

@@ -27,23 +27,23 @@ pub fn att_prp(room: &mut [u8], at: usize, op_id: i64, x: record::AttPrp) -> usi
 fn meter(room: &mut [u8], at: usize, eui: u64, bidi: bool) -> usize
     ensures { ◌≡◌ {A = Put} (put room.new result) (put_parts (meter_parts eui bidi) (put room.old at)) }
 {
-    let a = pair::word(room, at, true, b"\xA5epEui", eui);
-    pair::mark(room, a, b"\xA4bidi", bidi)
+    let a = pair::field(room, at, true, b"\xA5epEui", eui);
+    pair::field(room, a, true, b"\xA4bidi", bidi)
 }
 
 fn attachment(room: &mut [u8], at: usize, key: record::Sixteen, short: u16, counter: u32) -> usize
     ensures { ◌≡◌ {A = Put} (put room.new result) (put_parts (attachment_parts key short counter) (put room.old at)) }
 {
     let a = pair::sixteen(room, at, b"\xA8nwkSnKey", key);
-    let b = pair::word(room, a, true, b"\xA6shAddr", short as u64);
-    pair::word(room, b, true, b"\xADlastPacketCnt", counter as u64)
+    let b = pair::field(room, a, true, b"\xA6shAddr", short as u64);
+    pair::field(room, b, true, b"\xADlastPacketCnt", counter as u64)
 }
 
 fn modes(room: &mut [u8], at: usize, dual: bool, repeated: bool, wide: bool, long: bool) -> usize
     ensures { ◌≡◌ {A = Put} (put room.new result) (put_parts (modes_parts dual repeated wide long) (put room.old at)) }
 {
-    let a = pair::mark(room, at, b"\xA8dualChan", dual);
-    let b = pair::mark(room, a, b"\xAArepetition", repeated);
-    let c = pair::mark(room, b, b"\xABwideCarrOff", wide);
-    pair::mark(room, c, b"\xABlongBlkDist", long)
+    let a = pair::field(room, at, true, b"\xA8dualChan", dual);
+    let b = pair::field(room, a, true, b"\xAArepetition", repeated);
+    let c = pair::field(room, b, true, b"\xABwideCarrOff", wide);
+    pair::field(room, c, true, b"\xABlongBlkDist", long)
 }

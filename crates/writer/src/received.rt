@@ -56,32 +56,32 @@ fn packet(room: &mut [u8], at: usize, p: Packet) -> usize
 fn times(room: &mut [u8], at: usize, p: Packet) -> usize
     ensures { ◌≡◌ {A = Put} (put room.new result) (put_parts (times_parts p) (put room.old at)) }
 {
-    let a = pair::word(room, at, true, b"\xA5epEui", p.ep_eui);
-    let b = pair::word(room, a, true, b"\xA6rxTime", p.rx_time);
-    let c = pair::word(
+    let a = pair::field(room, at, true, b"\xA5epEui", p.ep_eui);
+    let b = pair::field(room, a, true, b"\xA6rxTime", p.rx_time);
+    let c = pair::field(
         room,
         b,
         p.rx_duration.here,
         b"\xAArxDuration",
         p.rx_duration.value,
     );
-    pair::word(room, c, true, b"\xA9packetCnt", p.packet_cnt as u64)
+    pair::field(room, c, true, b"\xA9packetCnt", p.packet_cnt as u64)
 }
 
 fn signal(room: &mut [u8], at: usize, s: message::Signal) -> usize
     ensures { ◌≡◌ {A = Put} (put room.new result) (put_parts (signal_parts s) (put room.old at)) }
 {
-    let a = pair::real(room, at, true, b"\xA3snr", s.snr);
-    let b = pair::real(room, a, true, b"\xA4rssi", s.rssi);
-    pair::real(room, b, s.has_eq_snr, b"\xA5eqSnr", s.eq_snr)
+    let a = pair::field(room, at, true, b"\xA3snr", s.snr);
+    let b = pair::field(room, a, true, b"\xA4rssi", s.rssi);
+    pair::field(room, b, s.has_eq_snr, b"\xA5eqSnr", s.eq_snr)
 }
 
 // A format of 0 isn't written.
 fn answer(room: &mut [u8], at: usize, format: u8, window: bool, expected: bool, ack: bool) -> usize
     ensures { ◌≡◌ {A = Put} (put room.new result) (put_parts (answer_parts format window expected ack) (put room.old at)) }
 {
-    let a = pair::word(room, at, format != 0, b"\xA6format", format as u64);
-    let b = pair::mark(room, a, b"\xA6dlOpen", window);
-    let c = pair::mark(room, b, b"\xABresponseExp", expected);
-    pair::mark(room, c, b"\xA5dlAck", ack)
+    let a = pair::field(room, at, format != 0, b"\xA6format", format as u64);
+    let b = pair::field(room, a, true, b"\xA6dlOpen", window);
+    let c = pair::field(room, b, true, b"\xABresponseExp", expected);
+    pair::field(room, c, true, b"\xA5dlAck", ack)
 }

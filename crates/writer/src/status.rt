@@ -26,7 +26,7 @@ pub fn status_rsp(room: &mut [u8], at: usize, op_id: i64, x: StatusRsp, d: &[u8]
 fn report(room: &mut [u8], at: usize, x: StatusRsp, d: &[u8]) -> usize
     ensures { ◌≡◌ {A = Put} (put room.new result) (put_parts (report_parts x d.now) (put room.old at)) }
 {
-    let a = pair::code(room, at, b"\xA4code", x.code);
+    let a = pair::field(room, at, true, b"\xA4code", x.code);
     let b = duty(room, a, d, x.message_len, x.time, x.duty_cycle);
     load(room, b, x)
 }
@@ -35,8 +35,8 @@ fn duty(room: &mut [u8], at: usize, d: &[u8], n: u8, time: u64, cycle: f64) -> u
     ensures { ◌≡◌ {A = Put} (put room.new result) (put_parts (duty_parts (take n d.now) time cycle) (put room.old at)) }
 {
     let a = pair::text(room, at, b"\xA7message", d, n);
-    let b = pair::word(room, a, true, b"\xA4time", time);
-    pair::real(room, b, true, b"\xA9dutyCycle", cycle)
+    let b = pair::field(room, a, true, b"\xA4time", time);
+    pair::field(room, b, true, b"\xA9dutyCycle", cycle)
 }
 
 fn load(room: &mut [u8], at: usize, x: StatusRsp) -> usize
@@ -44,8 +44,8 @@ fn load(room: &mut [u8], at: usize, x: StatusRsp) -> usize
 {
     let g = x.geo_location;
     let a = pair::position(room, at, b"\xABgeoLocation", g);
-    let b = pair::word(room, a, x.uptime.here, b"\xA6uptime", x.uptime.value);
-    let c = pair::real(room, b, x.temp.here, b"\xA4temp", x.temp.value);
-    let d = pair::real(room, c, x.cpu_load.here, b"\xA7cpuLoad", x.cpu_load.value);
-    pair::real(room, d, x.mem_load.here, b"\xA7memLoad", x.mem_load.value)
+    let b = pair::field(room, a, x.uptime.here, b"\xA6uptime", x.uptime.value);
+    let c = pair::field(room, b, x.temp.here, b"\xA4temp", x.temp.value);
+    let d = pair::field(room, c, x.cpu_load.here, b"\xA7cpuLoad", x.cpu_load.value);
+    pair::field(room, d, x.mem_load.here, b"\xA7memLoad", x.mem_load.value)
 }

@@ -6,8 +6,8 @@ use Rattle.play.proofs.play.Goals as goal
 pub returns-then-told-ne0 : goal.returns-then-told-ne0
 returns-then-told-ne0 c = search (playing, rules)
 
-pub returns-then-refusal-ne0 : goal.returns-then-refusal-ne0
-returns-then-refusal-ne0 c = search (playing, rules)
+pub returns-then-not-accepted : goal.returns-then-not-accepted
+returns-then-not-accepted c = search (playing, rules)
 
 pub returns : goal.returns
 returns c = search (playing, rules)

@@ -1,5 +1,5 @@
 -- While waiting nothing changes; else the state and the mark are stored. Assumes nothing.
-use Rattle.std.proofs.Common.{rules, ap, not}
+use Rattle.std.proofs.Common.{rules, ap, not, refl}
 use Rattle.steps.proofs.{Losing.lost_waiting, Losing.lost_stored, Calling.callings}
 use Rattle.steps.proofs.lose.Goals as goal
 
@@ -11,7 +11,7 @@ bounds-d-345 c = search (callings, rules)
 
 pub returns-then-d-eq-WAITING : goal.returns-then-d-eq-WAITING
 returns-then-d-eq-WAITING c =
-    lost_waiting _ _ c.is_session.ensures _ (ap not c.if-not-is_session.false) c.type_inv.d c.if-d-eq-WAITING.true c.done.ensures
+    lost_waiting _ _ c.is_session.ensures _ (ap not c.if-not-is_session.false) c.type_inv.d c.if-d-eq-WAITING.true refl
 
 pub returns : goal.returns
-returns c = lost_stored _ _ c.is_session.ensures _ (ap not c.if-not-is_session.false) (search rules) c.if-d-eq-WAITING.false c.done-2.ensures
+returns c = lost_stored _ _ c.is_session.ensures _ (ap not c.if-not-is_session.false) (search rules) c.if-d-eq-WAITING.false refl

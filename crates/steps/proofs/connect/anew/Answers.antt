@@ -1,15 +1,14 @@
 use borrow.Author.Rules.{rules}
-use Rattle.steps.proofs.Opening.{openings}
 use Rattle.steps.proofs.Replies.{replies}
-use Rattle.steps.proofs.Storing.{long}
+use Rattle.steps.proofs.Opening.{anew_unsent, anew_sent}
 use Rattle.std.proofs.Common.{rules}
 use Rattle.steps.proofs.connect.anew.Goals as goal
 
-pub reply-w-requires : goal.reply-w-requires
-reply-w-requires c = search (openings, replies, long, rules)
+pub reply-requires : goal.reply-requires
+reply-requires c = search (replies, rules)
 
-pub returns-in-Refused : goal.returns-in-Refused
-returns-in-Refused c = search (openings, replies, long, rules)
+pub returns-in_err-length : goal.returns-in_err-length
+returns-in_err-length c = search (anew_unsent, c.in_err-length.ensures, rules)
 
-pub returns-in-Whole : goal.returns-in-Whole
-returns-in-Whole c = search (openings, replies, long, rules)
+pub returns : goal.returns
+returns c = search (anew_sent, c.in_ok-length.ensures, rules)

@@ -1,34 +1,10 @@
 use borrow.Author.Rules.{rules}
-use Rattle.steps.proofs.Opening.{openings}
+use Rattle.steps.proofs.Opening.{waiting_con, waiting_other, others}
 use Rattle.std.proofs.Common.{rules}
 use Rattle.steps.proofs.connect.in_waiting.Goals as goal
 
 pub returns-in-Con : goal.returns-in-Con
-returns-in-Con c = search (openings, rules)
+returns-in-Con c = search (waiting_con, rules)
 
-pub returns-in-ConRsp : goal.returns-in-ConRsp
-returns-in-ConRsp c = search (openings, rules)
-
-pub returns-in-StatusRsp : goal.returns-in-StatusRsp
-returns-in-StatusRsp c = search (openings, rules)
-
-pub returns-in-Det : goal.returns-in-Det
-returns-in-Det c = search (openings, rules)
-
-pub returns-in-DetRsp : goal.returns-in-DetRsp
-returns-in-DetRsp c = search (openings, rules)
-
-pub returns-in-AttPrp : goal.returns-in-AttPrp
-returns-in-AttPrp c = search (openings, rules)
-
-pub returns-in-DetPrp : goal.returns-in-DetPrp
-returns-in-DetPrp c = search (openings, rules)
-
-pub returns-in-UlData : goal.returns-in-UlData
-returns-in-UlData c = search (openings, rules)
-
-pub returns-in-DlDataQue : goal.returns-in-DlDataQue
-returns-in-DlDataQue c = search (openings, rules)
-
-pub returns-in-Bare : goal.returns-in-Bare
-returns-in-Bare c = search (openings, rules)
+pub returns-in_default : goal.returns-in_default
+returns-in_default c = search (waiting_other, others, rules)

@@ -1,25 +1,17 @@
--- A start of the centre takes the lowest free place, if its record may be written and has room. Assumes nothing.
 use borrow.Author.Rules.{rules}
-use Rattle.steps.proofs.Branches.{branches}
-use Rattle.steps.proofs.Storing.{long}
-use Rattle.std.proofs.Common.{rules}
+use Rattle.steps.proofs.Branches.{issue_unfit, issue_unsent, issue_sent}
 use Rattle.steps.proofs.Tests.{fault_none}
+use Rattle.std.proofs.Common.{rules}
 use Rattle.steps.proofs.issue.issue.Goals as goal
 
-pub put-w-requires : goal.put-w-requires
-put-w-requires c = fault_none _ _ _ c.fault.ensures c.if-fault-ne0.false
-
-pub free_place-i-requires : goal.free_place-i-requires
-free_place-i-requires c = search (branches, long, rules)
-
-pub returns-then-i-eq-PLACES : goal.returns-then-i-eq-PLACES
-returns-then-i-eq-PLACES c = search (branches, long, rules)
+pub put-requires : goal.put-requires
+put-requires c = fault_none _ _ _ c.fault.ensures c.if-fault-ne0.false
 
 pub returns-then-fault-ne0 : goal.returns-then-fault-ne0
-returns-then-fault-ne0 c = search (branches, long, rules)
+returns-then-fault-ne0 c = search (issue_unfit, rules)
 
-pub returns-in-Refused : goal.returns-in-Refused
-returns-in-Refused c = search (branches, long, rules)
+pub returns-in_err-length : goal.returns-in_err-length
+returns-in_err-length c = search (issue_unsent, c.in_err-length.ensures, c.in-Some.ensures.is, rules)
 
-pub returns-in-Whole : goal.returns-in-Whole
-returns-in-Whole c = search (branches, long, rules)
+pub returns : goal.returns
+returns c = search (issue_sent, c.in_ok-length.ensures, c.in-Some.ensures.is, rules)

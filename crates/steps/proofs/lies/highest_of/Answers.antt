@@ -1,18 +1,6 @@
--- A negative ID counts as 0. Any other is kept. Assumes nothing.
 use native.Mathlib.Omega.{arith}
-use borrow.Author.Rules.{rules}
-use Rattle.session.specs.Image.{session_at}
 use Rattle.steps.proofs.Storing.{long}
-use Rattle.steps.proofs.Knowing.{highest_zero, highest_kept}
 use Rattle.steps.proofs.lies.highest_of.Goals as goal
 
-pub id_at-id-requires : goal.id_at-id-requires
-id_at-id-requires c = let l = long _ c.requires in omega arith
-
-pub returns-then-id-lt0 : goal.returns-then-id-lt0
-unfolding session_at
-returns-then-id-lt0 c = search (highest_zero, rules)
-
-pub returns : goal.returns
-unfolding session_at
-returns c = search (highest_kept, rules)
+pub id_at-requires : goal.id_at-requires
+id_at-requires c = let l = long _ c.requires in omega arith

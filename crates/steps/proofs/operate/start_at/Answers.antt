@@ -1,21 +1,14 @@
 use borrow.Author.Rules.{rules}
-use Rattle.steps.proofs.Branches.{branches}
+use Rattle.steps.proofs.Branches.{start_unsent, start_sent}
 use Rattle.steps.proofs.Replies.{replies}
-use Rattle.steps.proofs.Storing.{long}
 use Rattle.std.proofs.Common.{rules}
 use Rattle.steps.proofs.operate.start_at.Goals as goal
 
-pub free_place-i-requires : goal.free_place-i-requires
-free_place-i-requires c = search (branches, replies, long, rules)
+pub reply-requires : goal.reply-requires
+reply-requires c = search (replies, rules)
 
-pub returns-then-i-eq-PLACES : goal.returns-then-i-eq-PLACES
-returns-then-i-eq-PLACES c = search (branches, replies, long, rules)
+pub returns-in_err-length : goal.returns-in_err-length
+returns-in_err-length c = search (start_unsent, c.in_err-length.ensures, c.in-Some.ensures.is, rules)
 
-pub reply-w-requires : goal.reply-w-requires
-reply-w-requires c = search (branches, replies, long, rules)
-
-pub returns-in-Refused : goal.returns-in-Refused
-returns-in-Refused c = search (branches, replies, long, rules)
-
-pub returns-in-Whole : goal.returns-in-Whole
-returns-in-Whole c = search (branches, replies, long, rules)
+pub returns : goal.returns
+returns c = search (start_sent, c.in_ok-length.ensures, c.in-Some.ensures.is, rules)

@@ -1,13 +1,10 @@
--- Whatever the kinds, the search goes on from place i as the definition does from there. i rises to sixteen. Assumes nothing.
+-- The search goes on from place i as the definition does from there. Assumes nothing.
 use mathlib.Core.Path.{◌≡◌}
-use Prim.Native.Nat.{ℕ, ◌-◌, ◌≤◌}
 use lib.ListN.{drop}
 use Rattle.session.specs.Place.{is_free, free_place, first_from}
-use Rattle.session.specs.Image.{entries_at}
+use Rattle.session.specs.Image.{session_at}
+use Rattle.steps.specs.Code.Lies.{entries_of}
 use Rattle.steps.proofs.places.free_place.Given as goal
 
 abbrev pub invariant-loop-i : goal.invariant-loop-i
-invariant-loop-i l = (l.i ≤ 16) × ((kinds : ℕ) → free_place (entries_at l.d l.ids kinds 16) ≡ first_from is_free l.i (drop l.i (entries_at l.d l.ids kinds 16)))
-
-abbrev pub decreases-loop-i : goal.decreases-loop-i
-decreases-loop-i l = 16 - l.i
+invariant-loop-i l = free_place (entries_of l.fn.side (session_at l.d)) ≡ first_from is_free l.i (drop l.i (entries_of l.fn.side (session_at l.d)))
