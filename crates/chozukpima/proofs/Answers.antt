@@ -3,19 +3,10 @@ use mathlib.Core.Path.{◌≡◌, refl, sym, ap, ◌∙◌}
 use Prim.Native.Nat.{ℕ, ◌+◌, ◌*◌, ◌≤◌, ◌<◌}
 use native.Mathlib.Omega.{arith}
 use borrow.Author.Tests.{le-leb, lt-leb}
-<<<<<<< HEAD
 use Rattle.std.specs.Prelude.{Ok, Err}
-use Rattle.refusal.specs.{Number.number_of, declared.Broken.Broken}
+use Rattle.refusal.specs.{Number.number_of, declared.Broken.Broken, declared.Refusal.Refusal}
 use Rattle.element.specs.Form.{Walked}
-use Rattle.frame.specs.declared.Framed.{Framed, TheVariants.Whole, TheVariants.Refused}
-=======
-use Rattle.element.specs.declared.Walked.{Walked}
-use Rattle.element.specs.declared.Walked.TheVariants as walked
-use Rattle.std.specs.Prelude.{Ok, Err}
 use Rattle.frame.specs.Frame.{Framed}
-use Rattle.refusal.specs.Number.{number_of}
-use Rattle.refusal.specs.declared.Refusal.{Refusal}
->>>>>>> 255b9b8e8c0d7970a5994d3258e1b50779fd2a4e
 use Rattle.meters.specs.declared.{Found.Found, Credit.Credit}
 use Rattle.meters.specs.declared.Found.TheVariants as found
 use Rattle.meters.specs.declared.Credit.TheVariants as credit

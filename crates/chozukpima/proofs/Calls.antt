@@ -5,11 +5,11 @@ use Prim.Native.Nat.{ℕ}
 use lib.{Dec.eqb, ListN.length}
 use borrow.Author.Tests.{eq-eqb, ne_eqb}
 use Rattle.octets.specs.Choice.{either}
-use Rattle.record.specs.declared.{Message.Message, Told.Told}
+use Rattle.record.specs.declared.{Message.Message, Counted.Counted}
 use Rattle.record.specs.Meant.{Answered as Meaning, Meant}
 use Rattle.record.proofs.Answers.{one_answer}
 use Rattle.std.specs.Prelude.{Result, Ok, Err}
-use Rattle.refusal.specs.{declared.Refusal.Refusal, Number.number_of}
+use Rattle.refusal.specs.{declared.Broken.Broken, declared.Refusal.Refusal, Number.number_of}
 use Rattle.writer.specs.Write.{Sent, sent, written, write_refusal, length_of}
 use Rattle.steps.specs.Called.{Answer, Called, called, arrive_on, begin_on}
 use Rattle.layout.specs.{Image.message_size, Image.message_image, Taken.message_at}
@@ -18,23 +18,23 @@ use Rattle.chozukpima.specs.Messages.{Filled, filled, told_into, got, ReadInto, 
 use Rattle.chozukpima.specs.Sessions.{Returned, returned, step_answer, arrive_returns, begin_returns}
 
 -- what is told of a payload
-module _ (t : Told) (d : List ℕ) (r : ℕ) where
-  pub told_refused : (t.refusal ≡ 0 → ⊥) → r ≡ packed t.refusal 0 t.place → ◌≡◌ {A = Filled} (filled r d) (told_into t d)
+module _ (t : Result Counted Broken) (d : List ℕ) (r : ℕ) where
+  pub told_refused : (b : Broken) → t ≡ Err b → (n : ℕ) → n ≡ number_of b.refusal → r ≡ packed n 0 b.place → ◌≡◌ {A = Filled} (filled r d) (told_into t d)
   unfolding told_into
-  told_refused h e = ap (λ n. filled n d) e ∙ sym (simp (ne_eqb t.refusal 0 h))
+  told_refused b h n q e = rw h (ap (λ k. filled k d) (e ∙ ap (λ k. packed k 0 b.place) q))
 
-  pub told_whole : (after : List ℕ) → t.refusal ≡ 0 → length d ≡ message_size → r ≡ packed 0 0 t.count
-      → after ≡ either (eqb (length d) message_size) (λ _. message_image t.message) (λ _. d) → ◌≡◌ {A = Filled} (filled r after) (told_into t d)
+  pub told_whole : (x : Counted) → t ≡ Ok x → (after : List ℕ) → length d ≡ message_size → r ≡ packed 0 0 x.count
+      → after ≡ either (eqb (length d) message_size) (λ _. message_image x.message) (λ _. d) → ◌≡◌ {A = Filled} (filled r after) (told_into t d)
   unfolding told_into
-  told_whole after h l e p =
-      let q : either (eqb (length d) message_size) (λ _. message_image t.message) (λ _. d) ≡ message_image t.message = simp (eq-eqb (length d) message_size l) in
-      (λ i. filled (e i) ((p ∙ q) i)) ∙ sym (simp (eq-eqb t.refusal 0 h))
+  told_whole x h after l e p =
+      let q : either (eqb (length d) message_size) (λ _. message_image x.message) (λ _. d) ≡ message_image x.message = simp (eq-eqb (length d) message_size l) in
+      rw h (λ i. filled (e i) ((p ∙ q) i))
 
 module _ (p m d : List ℕ) (r : ℕ) where
   pub read_short : (length m ≡ message_size → ⊥) → r ≡ refused_with 15 → ReadInto p m d (got (filled r m) d)
   read_short h e = record { long = λ _. ap (λ n. got (filled n m) d) e; meant = λ l a n. absurd (h l) }
 
-  pub read_whole : (after lent : List ℕ) (t : Told) → length m ≡ message_size → Meant p d (record { told = t; lent = lent }) → ◌≡◌ {A = Filled} (filled r after) (told_into t m)
+  pub read_whole : (after lent : List ℕ) (t : Result Counted Broken) → length m ≡ message_size → Meant p d (record { told = t; lent = lent }) → ◌≡◌ {A = Filled} (filled r after) (told_into t m)
       → ReadInto p m d (got (filled r after) lent)
   read_whole after lent t l n q =
       let a : Meaning = record { told = t; lent = lent } in

@@ -1,9 +1,10 @@
 -- What the calls on messages answer, and what the lent bytes hold afterwards.
 use mathlib.Core.{Path.◌≡◌, Bool.true, List.List}
-use Rattle.std.specs.Prelude.{ℕ}
+use Rattle.std.specs.Prelude.{ℕ, Result, Ok, Err}
 use lib.{Dec.eqb, ListN.length}
 use Rattle.octets.specs.Choice.{either}
-use Rattle.record.specs.declared.Told.{Told}
+use Rattle.refusal.specs.{Number.number_of, declared.Broken.Broken}
+use Rattle.record.specs.declared.Counted.{Counted}
 use Rattle.record.specs.{Fits.fits, Meant.Answered, Meant.Meant}
 use Rattle.writer.specs.Write.{Sent, written, write_refusal, length_of}
 use Rattle.layout.specs.{Image.message_size, Image.message_image, Taken.message_at}
@@ -18,8 +19,9 @@ abbrev pub filled : ℕ → List ℕ → Filled
 filled n d = record { answer = n; bytes = d }
 
 -- the count of elements and the record's image; or the refusal with its place, and the message as it was
-unfoldable pub told_into : Told → List ℕ → Filled
-told_into t m = either (eqb t.refusal 0) (λ _. filled (packed 0 0 t.count) (message_image t.message)) (λ _. filled (packed t.refusal 0 t.place) m)
+unfoldable pub told_into : Result Counted Broken → List ℕ → Filled
+told_into (Ok x) m = filled (packed 0 0 x.count) (message_image x.message)
+told_into (Err b) m = filled (packed (number_of b.refusal) 0 b.place) m
 
 -- an answer, and the message and its data afterwards
 pub record Got : Type 0 where

@@ -1,6 +1,9 @@
 // The one number that answers every call.
 ghost use Rattle.std.specs.Prelude.{◌≡◌, ◌≤◌, ◌<◌};
+ghost use Rattle.refusal.specs.Number.{number_of};
 ghost use Rattle.chozukpima.specs.Packed.{shown, packed, refused_with};
+
+use refusal::Refusal;
 
 // The greatest value of 48 bits.
 pub const MOST_VALUE: usize = 0xFFFF_FFFF_FFFF;
@@ -29,8 +32,8 @@ pub fn pack(refusal: u8, happened: u8, value: usize) -> u64
     wide(refusal) + (256 * wide(happened) + 65536 * v)
 }
 
-pub fn refuse(n: u8) -> u64
-    ensures { result ≡ refused_with n }
+pub fn refuse(r: Refusal) -> u64
+    ensures { result ≡ refused_with (number_of r) }
 {
-    pack(n, 0, 0)
+    pack(r.number(), 0, 0)
 }

@@ -14,7 +14,7 @@ fn place_answer(a: Result<u8, Refusal>) -> u64
 {
     match a {
         Ok(place) => pack(0, 0, usize::from(place)),
-        Err(r) => refuse(r.number()),
+        Err(r) => refuse(r),
     }
 }
 
@@ -32,7 +32,7 @@ fn chosen_answer(a: Result<Chosen, Refusal>) -> u64
             );
             pack(0, 0, place + (256 * size + 65536 * from))
         }
-        Err(r) => refuse(r.number()),
+        Err(r) => refuse(r),
     }
 }
 

@@ -6,8 +6,8 @@ ghost use Rattle.chozukpima.specs.Messages.{Filled, filled, told_into, got, Read
 ghost use Rattle.chozukpima.specs.{Code.Stands.Stands, Packed.packed};
 
 use crate::answer::{pack, refuse};
-use octets::refusals;
-use refusal::Refusal;
+use record::Counted;
+use refusal::{Broken, Refusal};
 
 // A payload into a message and its data: how many elements it has; 3 to 15, with the place for 4 to 10. A message of another length, or too few
 // bytes for data, are 15 first.
@@ -16,23 +16,23 @@ pub fn chz_read(payload: &[u8], message: &mut [u8], lent: &mut [u8]) -> u64
     ensures fit { Kept result message.new lent.new }
 {
     if message.len() != layout::SIZE {
-        return refuse(refusals::INVALID);
+        return refuse(Refusal::Invalid);
     }
     tell(reading::read(payload, lent), message)
 }
 
-fn tell(t: record::Told, message: &mut [u8]) -> u64
+fn tell(told: Result<Counted, Broken>, message: &mut [u8]) -> u64
     requires { length message.old ≡ message_size }
-    ensures is { ◌≡◌ {A = Filled} (filled result message.new) (told_into t message.old) }
-    ensures fit { Stands t result message.new }
+    ensures is { ◌≡◌ {A = Filled} (filled result message.new) (told_into told message.old) }
+    ensures fit { Stands told result message.new }
 {
-    if t.refusal != 0 {
-        return pack(t.refusal, 0, t.place);
+    match told {
+        Ok(x) => {
+            layout::put_message(message, x.message);
+            pack(0, 0, x.count)
+        }
+        Err(broken) => pack(broken.refusal.number(), 0, broken.place),
     }
-    let count = t.count;
-    let m = t.message;
-    layout::put_message(message, m);
-    pack(0, 0, count)
 }
 
 // A message as a whole frame at the start of the room: its length; 15, 20.
@@ -40,7 +40,7 @@ pub fn chz_write(message: &[u8], lent: &[u8], room: &mut [u8]) -> u64
     ensures { ◌≡◌ {A = Filled} (filled result room.new) (write_returns message.now lent.now room.old) }
 {
     if message.len() != layout::SIZE {
-        return refuse(refusals::INVALID);
+        return refuse(Refusal::Invalid);
     }
     written(writer::write(layout::message_in(message), lent, room))
 }
@@ -50,6 +50,6 @@ fn written(w: Result<usize, Refusal>) -> u64
 {
     match w {
         Ok(n) => pack(0, 0, n),
-        Err(r) => refuse(r.number()),
+        Err(r) => refuse(r),
     }
 }

@@ -4,7 +4,6 @@ ghost use Rattle.steps.specs.Called.{lost_answer, lost_session};
 ghost use Rattle.chozukpima.specs.Sessions.{Returned, returned, step_answer, arrive_returns, begin_returns};
 
 use crate::answer::{pack, refuse};
-use octets::refusals;
 use refusal::Refusal;
 use steps::Done;
 
@@ -13,7 +12,7 @@ fn step_answer(a: Result<Done, Refusal>) -> u64
 {
     match a {
         Ok(done) => pack(0, done.happened.number(), done.length),
-        Err(r) => refuse(r.number()),
+        Err(r) => refuse(r),
     }
 }
 
@@ -31,7 +30,7 @@ pub fn chz_arrive(
         (arrive_returns session.old message.now lent.now sc_eui uuid.now sign.now room.old) }
 {
     if message.len() != layout::SIZE {
-        return refuse(refusals::INVALID);
+        return refuse(Refusal::Invalid);
     }
     let m = layout::message_in(message);
     step_answer(steps::arrive(session, m, lent, sc_eui, uuid, sign, room))
@@ -43,7 +42,7 @@ pub fn chz_begin(session: &mut [u8], message: &[u8], lent: &[u8], room: &mut [u8
         (begin_returns session.old message.now lent.now room.old) }
 {
     if message.len() != layout::SIZE {
-        return refuse(refusals::INVALID);
+        return refuse(Refusal::Invalid);
     }
     let m = layout::message_in(message);
     step_answer(steps::begin(session, m, lent, room))

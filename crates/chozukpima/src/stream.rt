@@ -5,12 +5,7 @@ ghost use Rattle.frame.specs.Frame.{framed_of};
 ghost use Rattle.chozukpima.specs.Packed.{frame_answer, form_answer};
 
 use crate::answer::pack;
-<<<<<<< HEAD
-use frame::Framed;
 use refusal::Broken;
-=======
-use element::Walked;
->>>>>>> 255b9b8e8c0d7970a5994d3258e1b50779fd2a4e
 
 // A frame at the start of the bytes: how many bytes it takes; 1, 2, 3.
 pub fn chz_frame(bytes: &[u8]) -> u64

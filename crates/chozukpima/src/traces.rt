@@ -14,7 +14,7 @@ fn wrote_answer(w: Result<usize, Refusal>) -> u64
 {
     match w {
         Ok(length) => pack(0, 0, length),
-        Err(r) => refuse(r.number()),
+        Err(r) => refuse(r),
     }
 }
 
@@ -34,7 +34,7 @@ pub fn chz_record(time: &mut u64, gap: u64, station: u64, frame: &[u8], room: &m
             *time = *time + gap;
             pack(0, 0, length)
         }
-        Err(r) => refuse(r.number()),
+        Err(r) => refuse(r),
     }
 }
 
@@ -45,7 +45,7 @@ pub fn chz_trace_open(bytes: &[u8]) -> u64
 {
     match trace::start(bytes) {
         Ok(n) => pack(0, 0, n.next),
-        Err(r) => refuse(r.number()),
+        Err(r) => refuse(r),
     }
 }
 
@@ -59,7 +59,7 @@ pub fn chz_recorded(time: &mut u64, bytes: &[u8]) -> u64
             *time = *time + e.gap;
             entry_answer(e)
         }
-        Err(r) => refuse(r.number()),
+        Err(r) => refuse(r),
     }
 }
 

@@ -4,11 +4,14 @@ use borrow.Author.Rules.{rules}
 use Rattle.std.proofs.Common.{rules}
 use Rattle.chozukpima.proofs.messages.tell.Goals as goal
 
-pub returns-then-t-ne0-clause-is : goal.returns-then-t-ne0-clause-is
-returns-then-t-ne0-clause-is c = search (calls, keeps, rules)
+pub returns-in-Ok-clause-is : goal.returns-in-Ok-clause-is
+returns-in-Ok-clause-is c = search (calls, keeps, rules)
 
-pub returns-then-t-ne0-clause-fit : goal.returns-then-t-ne0-clause-fit
-returns-then-t-ne0-clause-fit c = search (calls, keeps, rules)
+pub returns-in-Ok-clause-fit : goal.returns-in-Ok-clause-fit
+returns-in-Ok-clause-fit c = search (calls, keeps, rules)
 
-pub returns-clause-is : goal.returns-clause-is
-returns-clause-is c = search (calls, keeps, rules)
+pub returns-in-Err-clause-is : goal.returns-in-Err-clause-is
+returns-in-Err-clause-is c = search (calls, keeps, rules)
+
+pub returns-in-Err-clause-fit : goal.returns-in-Err-clause-fit
+returns-in-Err-clause-fit c = search (calls, keeps, rules)
