@@ -13,9 +13,8 @@ use borrow.Author.Tests.{le-leb, lt-leb}
 use Rattle.octets.specs.{Number.is_there, Code.Low.are_low}
 use Rattle.octets.proofs.{Lows.low_there, Lows.low_each, Ranges.true_is, Ranges.both_left, Ranges.both_right, Reading.inside}
 use Rattle.element.specs.{Form.Role, Form.element_of, Code.Items.items_of}
-use Rattle.walk.specs.declared.short.Quick.TheVariants.{Bytes}
 use Rattle.walk.specs.Code.Run.{eight_more, Follows, Passes, Ran}
-use Rattle.walk.proofs.{Quick.value_one, Quick.value_two, Turns.value_bytes, Turns.items_next}
+use Rattle.walk.proofs.{Quick.value_one, Quick.value_two, Turns.value_quick, Turns.items_next}
 
 -- the test for eight parts more
 module _ (s : List ℕ) (at n : ℕ) where
@@ -32,7 +31,7 @@ pub ruleset eights = (more_few, more_low)
 -- the place behind a part
 module _ (s : List ℕ) (at : ℕ) where
   pub follows_low : at < length s → get_or s at 0 < 0x80 → Follows s at (at + 1)
-  follows_low h b = record { is = λ left count m d. sym (value_bytes s left at count (Bytes 1) (value_one s left at count h m d b) 1 refl) }
+  follows_low h b = record { is = λ left count m d. sym (value_quick s left at count 1 (value_one s left at count h m d b) refl) }
 
   -- where two bytes are there
   module _ (t : Bool) (e : t ≡ is_there (length s) at 2) (u : t ≡ true) where
@@ -42,7 +41,7 @@ module _ (s : List ℕ) (at : ℕ) where
     pub follows_byte : get_or s at 0 ≡ 0xCC → Follows s at (at + 2)
     follows_byte b =
         let two : 2 ≤ length s - at = omega (arith, inside (length s) at 2 t e u) in
-        record { is = λ left count m d. sym (value_bytes s left at count (Bytes 2) (value_two s left at count first_there m d b two) 2 refl) }
+        record { is = λ left count m d. sym (value_quick s left at count 2 (value_two s left at count first_there m d b two) refl) }
 
     pub behind_fits : (n : ℕ) → n ≤ 2 → length s < 2 ^ 64 → Fits w64 (at + n)
     behind_fits n h l = record { fits = omega (arith, inside (length s) at 2 t e u) }
