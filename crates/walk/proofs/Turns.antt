@@ -1,104 +1,103 @@
--- Values, keys, pairs and the loops over them, by what the lead bytes tell: each turn takes the answer from here to the answer from behind the item.
+-- Values, pairs and the loops over them, by what the lead bytes tell: each turn takes the answer from here to the answer from behind the item.
 -- The sums fit because something told of is there, counted, and has a level. Assumes nothing.
-use mathlib.Core.Path.{◌≡◌, refl, sym, ap, subst, ◌∙◌}
+use mathlib.Core.Path.{◌≡◌, refl, sym, ap, ◌∙◌}
 use mathlib.Core.{Bool.Bool, Bool.true, Bool.false, List.List}
 use Prim.Native.Nat.{ℕ, ◌+◌, ◌-◌, ◌*◌, ◌^◌, ◌≤◌, ◌<◌}
 use native.Mathlib.Omega.{arith}
 use lib.ListN.{length}
-use Rattle.std.specs.Prelude.{Ok, Err, IsErr, IsErrAnd, Option, Some}
+use Rattle.std.specs.Prelude.{Ok, Err, IsErr, IsErrAnd}
 use mir.Syntax.{w64}
 use mir.Val.{Fits}
+use Rattle.element.specs.Form.{Role, Step, next, times, item_by, element_of}
 use Rattle.refusal.specs.declared.Broken.{Broken}
 use Rattle.element.specs.declared.Next.{Next}
-use Rattle.element.specs.Form.{Role, Step, next, times, item_by, element_of}
 use Rattle.element.specs.Code.Items.{items_of}
 use Rattle.element.proofs.Steps.{times_more}
-use Rattle.walk.specs.declared.short.Quick.{Quick, TheVariants.Look, TheVariants.Bytes, TheVariants.Pairs, TheVariants.Parts}
-use Rattle.walk.specs.Code.Short.{quick_at, bytes_in}
+use Rattle.walk.specs.Code.Short.{quick_at, quick_after, is_short, Bounded, After, Opens}
 use Rattle.walk.specs.Code.Turn.{pair_of}
-use Rattle.walk.proofs.Quick.{IsTold, Told, faultless, tells, quick_bytes, quick_pairs, quick_parts}
+use Rattle.walk.proofs.Sizes.{is_some, is_small, is_long, tested}
+use Rattle.walk.proofs.Quick.{base, Opened, quick_short, quick_holds, after_is}
 
--- a value or part of which something is told
-module _ (s : List ℕ) (left at count : ℕ) (z : Quick) (e : z ≡ quick_at s left Role.value at count) (n : ℕ) where
-  pub value_bytes : z ≡ Bytes n → next (at + n) (count + 1) ≡ element_of s left Role.value at count
-  value_bytes i = sym (quick_bytes s left Role.value at count z e n i)
+-- a value or part that the lead byte alone tells of
+module _ (s : List ℕ) (left at count z : ℕ) where
+  short_value : z ≡ quick_at s left Role.value at count → is_short z ≡ true → element_of s left Role.value at count ≡ next (at + z) (count + 1)
+  short_value e u = quick_short s left Role.value at count count z (omega arith) e (is_some z u) (is_small z u)
 
-  pub value_pairs : z ≡ Pairs n → (r : Step) → r ≡ items_of s (left - 1) true n (at + 1) (count + 1) → r ≡ element_of s left Role.value at count
-  value_pairs i r f = f ∙ sym (quick_pairs s left Role.value at count z e n i)
+  pub value_quick : z ≡ quick_at s left Role.value at count → is_short z ≡ true → next (at + z) (count + 1) ≡ element_of s left Role.value at count
+  value_quick e u = sym (short_value e u)
 
-  pub value_parts : z ≡ Parts n → (r : Step) → r ≡ items_of s (left - 1) false n (at + 1) (count + 1) → r ≡ element_of s left Role.value at count
-  value_parts i r f = f ∙ sym (quick_parts s left Role.value at count z e n i)
+  pub value_holds : Opens s left at count z → (z ≡ 0 → ⊥) → (r : Step) (keyed : Bool) (w : ℕ)
+      → r ≡ items_of s (left - 1) keyed w (at + 1) (count + 1) → w ≡ z - base keyed → Opened keyed z → r ≡ element_of s left Role.value at count
+  value_holds o n r keyed w f e k = f ∙ rw e (sym (quick_holds s left Role.value at count count z (omega arith) o.is n keyed (is_long z o.long n) k))
 
   -- the sums behind it
-  pub bytes_behind : z ≡ Bytes n → length s < 2 ^ 64 → Fits w64 (at + n)
-  bytes_behind i l =
-      let t = subst IsTold (sym i) tt in
-      let h = (faultless s left Role.value at count z e t).there in
-      let k : n ≤ length s - at = subst (Told (length s - at)) i (tells s left Role.value at count z e t) in
-      record { fits = omega arith }
+  module _ (k : Bounded (length s) left at count z) where
+    pub value_behind : is_short z ≡ true → length s < 2 ^ 64 → Fits w64 (at + z)
+    value_behind u l = record { fits = omega (arith, is_some z u, is_small z u, k.within, k.there) }
 
-  pub bytes_count : z ≡ Bytes n → Fits w64 (count + 1)
-  bytes_count i = record { fits = omega (arith, (faultless s left Role.value at count z e (subst IsTold (sym i) tt)).few) }
+    pub value_counts : (z ≡ 0 → ⊥) → Fits w64 (count + 1)
+    value_counts n = record { fits = omega (arith, k.few) }
 
-  pub pairs_count : z ≡ Pairs n → Fits w64 (count + 1)
-  pairs_count i = record { fits = omega (arith, (faultless s left Role.value at count z e (subst IsTold (sym i) tt)).few) }
-
-  pub pairs_inside : z ≡ Pairs n → length s < 2 ^ 64 → Fits w64 (at + 1)
-  pairs_inside i l = record { fits = omega (arith, (faultless s left Role.value at count z e (subst IsTold (sym i) tt)).there) }
-
-  pub pairs_level : z ≡ Pairs n → 1 ≤ left
-  pairs_level i = (faultless s left Role.value at count z e (subst IsTold (sym i) tt)).deep
-
-  pub pairs_sinks : z ≡ Pairs n → (t : ℕ) → 5 * left + 2 ≡ t → 5 * (left - 1) + 4 < t
-  pairs_sinks i t m = omega (arith, (faultless s left Role.value at count z e (subst IsTold (sym i) tt)).deep)
-
-  pub parts_count : z ≡ Parts n → Fits w64 (count + 1)
-  parts_count i = record { fits = omega (arith, (faultless s left Role.value at count z e (subst IsTold (sym i) tt)).few) }
-
-  pub parts_inside : z ≡ Parts n → length s < 2 ^ 64 → Fits w64 (at + 1)
-  parts_inside i l = record { fits = omega (arith, (faultless s left Role.value at count z e (subst IsTold (sym i) tt)).there) }
-
-  pub parts_level : z ≡ Parts n → 1 ≤ left
-  parts_level i = (faultless s left Role.value at count z e (subst IsTold (sym i) tt)).deep
-
-  pub parts_sinks : z ≡ Parts n → (t : ℕ) → 5 * left + 2 ≡ t → 5 * (left - 1) + 4 < t
-  parts_sinks i t m = omega (arith, (faultless s left Role.value at count z e (subst IsTold (sym i) tt)).deep)
-
--- a key of which its bytes are told
-bytes_are : (q : Quick) (n : ℕ) → bytes_in q ≡ Some n → q ≡ Bytes n
-bytes_are Look n e = let z : ◌≡◌ {A = ℕ} 0 1 = cc in absurd (omega arith)
-bytes_are (Bytes m) n e = let z : m ≡ n = cc in ap (λ (x : ℕ). Bytes x) z
-bytes_are (Pairs m) n e = let z : ◌≡◌ {A = ℕ} 0 1 = cc in absurd (omega arith)
-bytes_are (Parts m) n e = let z : ◌≡◌ {A = ℕ} 0 1 = cc in absurd (omega arith)
-
-module _ (s : List ℕ) (left at count : ℕ) (y : Option ℕ) (e : y ≡ bytes_in (quick_at s left Role.key at count)) (n : ℕ) (i : y ≡ Some n) where
-  key_told : quick_at s left Role.key at count ≡ Bytes n
-  key_told = bytes_are (quick_at s left Role.key at count) n (sym e ∙ i)
-
-  pub key_bytes : next (at + n) (count + 1) ≡ element_of s left Role.key at count
-  key_bytes = sym (quick_bytes s left Role.key at count (quick_at s left Role.key at count) refl n key_told)
-
-  pub key_behind : length s < 2 ^ 64 → Fits w64 (at + n)
-  key_behind l =
-      let t = subst IsTold (sym key_told) tt in
-      let h = (faultless s left Role.key at count (quick_at s left Role.key at count) refl t).there in
-      let k : n ≤ length s - at = subst (Told (length s - at)) key_told (tells s left Role.key at count (quick_at s left Role.key at count) refl t) in
-      record { fits = omega arith }
-
-  pub key_count : Fits w64 (count + 1)
-  key_count = record { fits = omega (arith, (faultless s left Role.key at count (quick_at s left Role.key at count) refl (subst IsTold (sym key_told) tt)).few) }
+pub key_quick : (s : List ℕ) (left at count y : ℕ) → y ≡ quick_at s left Role.key at (count + 1) → (y ≡ 0 → ⊥) → y ≤ 32 → next (at + y) (count + 1) ≡ element_of s left Role.key at count
+key_quick s left at count y e n h = sym (quick_short s left Role.key at count (count + 1) y (omega arith) e n (omega arith))
 
 -- a key and its value
-module _ (s : List ℕ) (left at count : ℕ) (r : Step) (e : r ≡ element_of s left Role.key at count) where
-  pub pair_next : (q : Step) (k : Next) → r ≡ Ok k → q ≡ element_of s left Role.value k.at k.count → q ≡ pair_of s left at count
-  unfolding pair_of
-  pair_next q k n f = rw (← e, n) f
+module _ (s : List ℕ) (left at count : ℕ) where
+  module _ (r : Step) (e : r ≡ element_of s left Role.key at count) where
+    pub pair_next : (q : Step) (k : Next) → r ≡ Ok k → q ≡ element_of s left Role.value k.at k.count → q ≡ pair_of s left at count
+    unfolding pair_of
+    pair_next q k n f = rw (← e, n) f
 
-  pub pair_broken : (b : Broken) → r ≡ Err b → Err b ≡ pair_of s left at count
-  unfolding pair_of
-  pair_broken b n = rw (← e, n)
+    pub pair_broken : (b : Broken) (q : Step) → r ≡ Err b → q ≡ Err b → q ≡ pair_of s left at count
+    unfolding pair_of
+    pair_broken b q n f = f ∙ rw (← e, n)
 
-pub ruleset items = (value_bytes, value_pairs, value_parts, bytes_behind, bytes_count, pairs_count, pairs_inside, pairs_level, pairs_sinks, parts_count, parts_inside, parts_level, parts_sinks, key_bytes, key_behind, key_count)
+  -- the key that the lead byte tells of, then the value
+  module _ (y z : ℕ) (k : y ≡ quick_at s left Role.key at (count + 1)) (m : y ≤ 32) (e : z ≡ quick_after s left at count y)
+      (g : After (length s) left at count y z) (n : z ≡ 0 → ⊥) where
+    some_key : y ≡ 0 → ⊥
+    some_key h = omega (arith, g.key)
+
+    after_value : (q : Step) → q ≡ element_of s left Role.value (at + y) (count + 1) → q ≡ pair_of s left at count
+    after_value q f =
+        pair_next (element_of s left Role.key at count) refl q (record { at = at + y; count = count + 1 })
+        (quick_short s left Role.key at count (count + 1) y (omega arith) k some_key (omega arith)) f
+
+    value_is : z ≡ quick_at s left Role.value (at + y) (count + 1)
+    value_is = after_is s left at count y z some_key e
+
+    two : count + 2 ≡ count + 1 + 1
+    two = omega arith
+
+    pub pair_short : is_short z ≡ true → next (at + y + z) (count + 2) ≡ pair_of s left at count
+    pair_short u = after_value (next (at + y + z) (count + 2)) (ap (λ (c : ℕ). next (at + y + z) c) two ∙ sym (short_value s left (at + y) (count + 1) z value_is u))
+
+    pub pair_holds : is_short z ≡ false → (r : Step) (keyed : Bool) (w : ℕ) → r ≡ items_of s (left - 1) keyed w (at + y + 1) (count + 2) → w ≡ z - base keyed → Opened keyed z
+        → r ≡ pair_of s left at count
+    pair_holds u r keyed w f q o =
+        after_value r (f ∙ rw (two, q) (sym (quick_holds s left Role.value (at + y) (count + 1) (count + 1) z (omega arith) value_is n keyed (is_long z u n) o)))
+
+  -- the sums of a pair
+  module _ (y z : ℕ) (a : After (length s) left at count y z) (n : z ≡ 0 → ⊥) where
+    pub pair_inside : length s < 2 ^ 64 → Fits w64 (at + y)
+    pair_inside l = record { fits = omega (arith, a.bounds.there) }
+
+    pub pair_into : length s < 2 ^ 64 → Fits w64 (at + y + 1)
+    pair_into l = record { fits = omega (arith, a.bounds.there) }
+
+    pub pair_behind : is_short z ≡ true → length s < 2 ^ 64 → Fits w64 (at + y + z)
+    pair_behind u l = record { fits = omega (arith, is_small z u, a.bounds.there, a.bounds.within) }
+
+    pub pair_counts : Fits w64 (count + 2)
+    pair_counts = record { fits = omega (arith, a.bounds.few) }
+
+    pub pair_level : 1 ≤ left
+    pair_level = omega (arith, a.bounds.deep)
+
+    pub pair_sinks : (t : ℕ) → 5 * left + 2 ≡ t → 5 * (left - 1) + 4 < t
+    pair_sinks t m = omega (arith, a.bounds.deep)
+
+pub ruleset items = (value_quick, key_quick, value_holds, value_behind, value_counts, pair_next, pair_broken, pair_short, pair_holds, pair_inside, pair_into, pair_behind, pair_counts, pair_level, pair_sinks, tested, is_some, is_long)
 
 -- one part, or one pair
 abbrev item : List ℕ → ℕ → Bool → ℕ → ℕ → Step
@@ -146,4 +145,4 @@ module _ (s : List ℕ) (left : ℕ) (keyed : Bool) (w : Step) (n i at count : �
     pub turns_broken : (b : Broken) → r ≡ Err b → Err b ≡ w
     turns_broken b g = items_broken s left keyed w (n - i) at count e (omega arith) r f b g
 
-pub ruleset turns = (turns_done)
+pub ruleset turns = (turns_done, tested)

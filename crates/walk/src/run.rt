@@ -1,6 +1,6 @@
 // The parts of an array that are a byte below 0x80, or a byte behind CC: each is an element of its own. Most arrays
 // hold bytes, so that all or nearly all of their parts are such.
-ghost use Rattle.std.specs.Prelude.{◌≡◌, ◌-◌, ◌*◌, ◌≤◌};
+ghost use Rattle.std.specs.Prelude.{◌≡◌, ◌-◌, ◌*◌, ◌≤◌, IfSome};
 ghost use Rattle.walk.specs.Code.Run.{eight_more, Follows, Passes, Ran};
 
 use crate::MOST_ELEMENTS;
@@ -47,10 +47,9 @@ fn octets_from(s: &[u8], at: usize, n: usize) -> Passed
 {
     let mut run = eights(s, at, n);
     for parts in run.parts..n {
-        let behind = octet_end(s, run.at);
-        if behind == run.at {
+        let Some(behind) = octet_end(s, run.at) else {
             break;
-        }
+        };
         run = Passed {
             at: behind,
             parts: parts + 1,
@@ -59,18 +58,18 @@ fn octets_from(s: &[u8], at: usize, n: usize) -> Passed
     run
 }
 
-// The place behind such a part; its own place where it is another, or where two bytes, enough for either, are not there.
+// The place behind such a part; none where it is another, or where two bytes, enough for either, are not there.
 #[tactic(auto, using(crate::proofs::Runs::octet_ends))]
-fn octet_end(s: &[u8], at: usize) -> usize
-    ensures { Follows s.now at result }
+fn octet_end(s: &[u8], at: usize) -> Option<usize>
+    ensures { IfSome result (λ behind. Follows s.now at behind) }
 {
     if !octets::is_there(s.len(), at, 2) {
-        return at;
+        return None;
     }
     match s[at] {
-        0x00..=0x7F => at + 1,
-        0xCC => at + 2,
-        _ => at,
+        0x00..=0x7F => Some(at + 1),
+        0xCC => Some(at + 2),
+        _ => None,
     }
 }
 

@@ -5,17 +5,17 @@ ghost use mathlib.Core.{Path.◌≡◌, Bool.true, Bool.false};
 ghost use Rattle.std.specs.Prelude.{◌+◌, ◌≤◌, ◌<◌, length, get_or};
 ghost use Rattle.element.specs.Form.{Role, body_of, fault_of, span_of, element_of};
 ghost use Rattle.element.specs.Code.Items.{items_of};
+ghost use Rattle.walk.specs.Code.Short.{quick_after, Bounded, After, Opens, QuickPair};
 ghost use Rattle.walk.specs.Code.Turn.{role_of, pair_of};
 
 use crate::lead::{head_of, is_text};
 use crate::run::octet_run;
-use crate::short::Quick;
 use crate::{MOST_ELEMENTS, short};
 use element::{Head, Next, Shape, Span};
 use refusal::{Broken, Refusal};
 
 // The element at a place, after `count` elements, with `left` levels: where the walk goes on, or its break.
-#[cycle(element_key_pair_pairs_value_values)]
+#[cycle(any_pair_element_held_held_pair_pair_pairs_value_values)]
 #[tactic(auto, using(crate::proofs::Elements::elements, crate::proofs::Turns::items, crate::proofs::Turns::turns))]
 pub fn element(s: &[u8], at: usize, count: usize, left: usize, key: bool) -> Result<Next, Broken>
     ensures { result ≡ element_of s.now left (role_of key) at count }
@@ -43,39 +43,38 @@ pub fn element(s: &[u8], at: usize, count: usize, left: usize, key: bool) -> Res
 }
 
 // The key at a place, without a call where its lead byte tells of it.
-#[cycle(element_key_pair_pairs_value_values)]
-#[tactic(auto, using(crate::proofs::Elements::elements, crate::proofs::Turns::items, crate::proofs::Turns::turns))]
+#[tactic(auto, using(crate::proofs::Turns::items))]
 pub fn key(s: &[u8], at: usize, count: usize, left: usize) -> Result<Next, Broken>
     ensures { result ≡ element_of s.now left Role.key at count }
 {
-    match short::quick_key(s, at, count, left) {
-        None => element(s, at, count, left, true),
-        Some(n) => Ok(Next {
-            at: at + n,
-            count: count + 1,
-        }),
+    let y = short::quick_key(s, at, count, left);
+    if y == 0 {
+        return element(s, at, count, left, true);
     }
+    Ok(Next {
+        at: at + y,
+        count: count + 1,
+    })
 }
 
-// The value or part at a place, without a call of the element reader where its lead byte tells of it.
-#[cycle(element_key_pair_pairs_value_values)]
+// The value or part at a place, without a call where its lead byte tells of it.
+#[cycle(any_pair_element_held_held_pair_pair_pairs_value_values)]
 #[tactic(auto, using(crate::proofs::Elements::elements, crate::proofs::Turns::items, crate::proofs::Turns::turns))]
 pub fn value(s: &[u8], at: usize, count: usize, left: usize) -> Result<Next, Broken>
     ensures { result ≡ element_of s.now left Role.value at count }
 {
-    match short::quick_value(s, at, count, left) {
-        Quick::Look => element(s, at, count, left, false),
-        Quick::Bytes(n) => Ok(Next {
-            at: at + n,
+    let z = short::quick_value(s, at, count, left);
+    if short::is_short(z) {
+        return Ok(Next {
+            at: at + z,
             count: count + 1,
-        }),
-        Quick::Pairs(n) => pairs(s, at + 1, count + 1, left - 1, n),
-        Quick::Parts(n) => values(s, at + 1, count + 1, left - 1, n),
+        });
     }
+    held(s, at, count, left, z)
 }
 
 // The n parts of an array from a place on. Most arrays hold bytes: their parts go first, in a loop of their own.
-#[cycle(element_key_pair_pairs_value_values)]
+#[cycle(any_pair_element_held_held_pair_pair_pairs_value_values)]
 #[tactic(auto, using(crate::proofs::Elements::elements, crate::proofs::Turns::items, crate::proofs::Turns::turns))]
 pub fn values(s: &[u8], at: usize, count: usize, left: usize, n: usize) -> Result<Next, Broken>
     ensures { result ≡ items_of s.now left false n at count }
@@ -92,7 +91,7 @@ pub fn values(s: &[u8], at: usize, count: usize, left: usize, n: usize) -> Resul
 }
 
 // The n pairs of a map from a place on.
-#[cycle(element_key_pair_pairs_value_values)]
+#[cycle(any_pair_element_held_held_pair_pair_pairs_value_values)]
 #[tactic(auto, using(crate::proofs::Elements::elements, crate::proofs::Turns::items, crate::proofs::Turns::turns))]
 pub fn pairs(s: &[u8], at: usize, count: usize, left: usize, n: usize) -> Result<Next, Broken>
     ensures { result ≡ items_of s.now left true n at count }
@@ -104,14 +103,83 @@ pub fn pairs(s: &[u8], at: usize, count: usize, left: usize, n: usize) -> Result
     Ok(next)
 }
 
-// A key and its value.
-#[cycle(element_key_pair_pairs_value_values)]
+// A key and its value, without a call where their lead bytes tell of both.
+#[cycle(any_pair_element_held_held_pair_pair_pairs_value_values)]
 #[tactic(auto, using(crate::proofs::Elements::elements, crate::proofs::Turns::items, crate::proofs::Turns::turns))]
 fn pair(s: &[u8], at: usize, count: usize, left: usize) -> Result<Next, Broken>
     ensures { result ≡ pair_of s.now left at count }
 {
-    let behind = key(s, at, count, left)?;
-    value(s, behind.at, behind.count, left)
+    let y = short::quick_key(s, at, count, left);
+    let z = quick_after(s, at, count, left, y);
+    if short::is_short(z) {
+        return Ok(Next {
+            at: at + y + z,
+            count: count + 2,
+        });
+    }
+    held_pair(s, at, count, left, y, z)
+}
+
+// A key and its value, where the value is not short.
+#[cycle(any_pair_element_held_held_pair_pair_pairs_value_values)]
+#[tactic(auto, using(crate::proofs::Elements::elements, crate::proofs::Turns::items, crate::proofs::Turns::turns))]
+fn held_pair(
+    s: &[u8],
+    at: usize,
+    count: usize,
+    left: usize,
+    y: usize,
+    z: usize,
+) -> Result<Next, Broken>
+    requires { QuickPair s.now left at count y z }
+    ensures { result ≡ pair_of s.now left at count }
+{
+    if z == 0 {
+        return any_pair(s, at, count, left);
+    }
+    if z < short::ARRAY {
+        return pairs(s, at + y + 1, count + 2, left - 1, z - short::MAP);
+    }
+    values(s, at + y + 1, count + 2, left - 1, z - short::ARRAY)
+}
+
+// A key and its value, each by the element reader.
+#[cycle(any_pair_element_held_held_pair_pair_pairs_value_values)]
+#[tactic(auto, using(crate::proofs::Elements::elements, crate::proofs::Turns::items, crate::proofs::Turns::turns))]
+fn any_pair(s: &[u8], at: usize, count: usize, left: usize) -> Result<Next, Broken>
+    ensures { result ≡ pair_of s.now left at count }
+{
+    let key = element(s, at, count, left, true)?;
+    element(s, key.at, key.count, left, false)
+}
+
+// A value or part that is not short.
+#[cycle(any_pair_element_held_held_pair_pair_pairs_value_values)]
+#[tactic(auto, using(crate::proofs::Elements::elements, crate::proofs::Turns::items, crate::proofs::Turns::turns))]
+fn held(s: &[u8], at: usize, count: usize, left: usize, z: usize) -> Result<Next, Broken>
+    requires { Opens s.now left at count z }
+    ensures { result ≡ element_of s.now left Role.value at count }
+{
+    if z == 0 {
+        return element(s, at, count, left, false);
+    }
+    if z < short::ARRAY {
+        return pairs(s, at + 1, count + 1, left - 1, z - short::MAP);
+    }
+    values(s, at + 1, count + 1, left - 1, z - short::ARRAY)
+}
+
+// The value behind a key of y bytes; 0 where there is no such key.
+#[tactic(auto, using(crate::proofs::Quick::afters))]
+fn quick_after(s: &[u8], at: usize, count: usize, left: usize, y: usize) -> usize
+    requires { (Bounded (length s.now) left at (count + 1) y) × (y ≤ 32) }
+    ensures is { result ≡ quick_after s.now left at count y }
+    ensures bounds { After (length s.now) left at count y result }
+{
+    if y == 0 {
+        return 0;
+    }
+    short::quick_value(s, at + y, count + 1, left)
 }
 
 // The first test that the element fails before its length is read, if it fails one.

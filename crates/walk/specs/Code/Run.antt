@@ -8,9 +8,9 @@ use Rattle.element.specs.{Form.Role, Form.next, Form.element_of, Code.Items.item
 unfoldable pub eight_more : List ℕ → ℕ → ℕ → Bool
 eight_more s at n = leb 8 n && are_low s at 8
 
--- the place behind the part at a place, wherever that may be counted and has a level; or it is the place itself
+-- the place behind the part at a place, wherever that may be counted and has a level
 pub record Follows (s : List ℕ) (at behind : ℕ) : Type 0 where
-  pub is : (left count : ℕ) → count < 1024 → (left ≡ 0 → ⊥) → (behind ≡ at → ⊥) → element_of s left Role.value at count ≡ next behind (count + 1)
+  pub is : (left count : ℕ) → count < 1024 → (left ≡ 0 → ⊥) → element_of s left Role.value at count ≡ next behind (count + 1)
 
 -- of n parts the first are passed: wherever they may be counted and have a level, the walk's answer from behind them is its answer
 pub record Passes (s : List ℕ) (n at next parts : ℕ) : Type 0 where

@@ -1,16 +1,11 @@
 use mathlib.Core.Bool.{true, false}
-use Rattle.walk.proofs.Turns.{err_again, pair_next, pair_broken, turns_next, turns_broken}
-use Rattle.walk.proofs.steps.+element_key_pair_pairs_value_values.Goals as goal
+use Rattle.walk.proofs.Turns.{err_again, pair_next, turns_next, turns_broken}
+use Rattle.walk.proofs.steps.+any_pair_element_held_held_pair_pair_pairs_value_values.Goals as goal
 
-pub pair-returns-in_err-behind : goal.pair-returns-in_err-behind
-pair-returns-in_err-behind t c =
-    err_again c.from_residual.result c.in_err-behind.field-0.0 c.from_residual.ensures
-    (pair_broken c.args.s.now c.args.left c.args.at c.args.count c.key.result c.key.ensures c.in_err-behind.field-0.0 c.in_err-behind.was)
-
-pub pair-returns : goal.pair-returns
-pair-returns t c =
-    pair_next c.args.s.now c.args.left c.args.at c.args.count c.key.result c.key.ensures
-    c.value.result c.in_ok-behind.behind c.in_ok-behind.was c.value.ensures
+pub any_pair-returns : goal.any_pair-returns
+any_pair-returns t c =
+    pair_next c.args.s.now c.args.left c.args.at c.args.count c.element.result c.element.ensures
+    c.element-2.result c.in_ok-key.key c.in_ok-key.was c.element-2.ensures
 
 pub pairs-returns-in_err-next : goal.pairs-returns-in_err-next
 pairs-returns-in_err-next t c =

@@ -1,14 +1,20 @@
--- The measures of the cycle: five times the levels left, and less from a loop to an item, from a pair to its key and value, from these to the element reader.
+-- The measures of the cycle: five times the levels left, and less from a loop to an item, from an item to its parts, from these to the element reader.
 -- In both loops the answer from here on is the answer. Assumes nothing.
 use Rattle.std.proofs.Common.{◌≡◌, ◌+◌, ◌-◌, ◌*◌, true, false}
 use Rattle.element.specs.Code.Items.{items_of}
-use Rattle.walk.proofs.steps.+element_key_pair_pairs_value_values.Given as goal
+use Rattle.walk.proofs.steps.+any_pair_element_held_held_pair_pair_pairs_value_values.Given as goal
+
+abbrev pub decreases-any_pair : goal.decreases-any_pair
+decreases-any_pair l = 5 * l.left + 1
 
 abbrev pub decreases-element : goal.decreases-element
 decreases-element l = 5 * l.left
 
-abbrev pub decreases-key : goal.decreases-key
-decreases-key l = 5 * l.left + 1
+abbrev pub decreases-held : goal.decreases-held
+decreases-held l = 5 * l.left + 1
+
+abbrev pub decreases-held_pair : goal.decreases-held_pair
+decreases-held_pair l = 5 * l.left + 2
 
 abbrev pub decreases-pair : goal.decreases-pair
 decreases-pair l = 5 * l.left + 3

@@ -1,0 +1,8 @@
+use borrow.Author.Rules.{rules}
+use Rattle.walk.proofs.Quick.{tolds}
+use Rattle.walk.proofs.Sizes.{sizes}
+use Rattle.std.proofs.Common.{rules}
+use Rattle.walk.proofs.short.told_high.Goals as goal
+
+pub returns-then-is_number-clause-is : goal.returns-then-is_number-clause-is
+returns-then-is_number-clause-is c = search (sizes, tolds, rules)
