@@ -20,9 +20,9 @@ use Rattle.field.specs.{Code.Into.read_into}
 use Rattle.field.proofs.Intos.{into_good}
 use Rattle.message.specs.Record.{word_in, string_of}
 use Rattle.record.specs.declared.Sixteen.{Sixteen}
-use Rattle.record.specs.Record.{bytes_in, four_of, sixteen_of, sixteen_in}
+use Rattle.record.specs.Record.{bytes_in, four_of, four_in, sixteen_of, sixteen_in}
 use Rattle.record.proofs.Packed.{sixteen_padded}
-use Rattle.bodies.specs.Code.Held.{judged_as, exactly, four_if, sixteen_if, four_as, sixteen_as, profile_as}
+use Rattle.bodies.specs.Code.Held.{judged_as, held_as, profile_in, exactly, four_if, sixteen_if}
 use Rattle.bodies.proofs.Values.{IsString, arrays_are, texts_are, arrays_more, texts_put}
 use Rattle.bodies.proofs.Worth.{Most, worth, low_word}
 
@@ -178,16 +178,16 @@ module _ (s a : List ℕ) (p i w r : ℕ) (j : Judged) (state : ℕ) where
 
   module _ (g : (d : Cell) → state ≡ cell_state d → r ≡ judged_as true i d w) where
     pub sixteen_is : j ≡ told_of (cell_at (Kind.arrays 0 16) s p) → state ≡ exactly j.state j.word 16 → a ≡ read_into s p (replicate 16 0)
-        → (v : Sixteen) → v ≡ sixteen_if (eqb state 0) a → record { worst = r; value = v } ≡ sixteen_as i (cell_at bytes16 s p) w
-    unfolding sixteen_as sixteen_if
+        → (v : Sixteen) → v ≡ sixteen_if (eqb state 0) a → record { worst = r; value = v } ≡ held_as sixteen_in true i (cell_at bytes16 s p) w
+    unfolding held_as sixteen_if
     sixteen_is e q b v h =
         let x = g (cell_at bytes16 s p) (state_is 16 e q) in
         let y = made_is 16 e q sixteen_of v b h in
         cc
 
     pub four_is : j ≡ told_of (cell_at (Kind.arrays 0 4) s p) → state ≡ exactly j.state j.word 4 → a ≡ read_into s p (replicate 4 0)
-        → (v : ℕ) → v ≡ four_if (eqb state 0) a → record { worst = r; value = v } ≡ four_as i (cell_at bytes4 s p) w
-    unfolding four_as four_if
+        → (v : ℕ) → v ≡ four_if (eqb state 0) a → record { worst = r; value = v } ≡ held_as four_in true i (cell_at bytes4 s p) w
+    unfolding held_as four_if
     four_is e q b v h =
         let x = g (cell_at bytes4 s p) (state_is 4 e q) in
         let y = made_is 4 e q four_of v b h in
@@ -195,8 +195,8 @@ module _ (s a : List ℕ) (p i w r : ℕ) (j : Judged) (state : ℕ) where
 
 pub profile_is : (s a : List ℕ) (p i w r : ℕ) (j : Judged) → ((d : Cell) → j.state ≡ cell_state d → r ≡ judged_as false i d w) → j ≡ told_of (cell_at profile_text s p)
     → a ≡ string_filled (judge (Kind.texts 0 16) (shallow_at s p)) (replicate 16 0)
-    → (v : Sixteen) → v ≡ sixteen_if (eqb j.state 0) a → record { worst = r; len = j.word % 256; value = v } ≡ profile_as i (cell_at profile_text s p) w
-unfolding profile_as sixteen_if
+    → (v : Sixteen) → v ≡ sixteen_if (eqb j.state 0) a → record { worst = r; value = record { len = j.word % 256; text = v } } ≡ held_as profile_in false i (cell_at profile_text s p) w
+unfolding held_as sixteen_if
 profile_is s a p i w r j g e b v h =
     let c = cell_at profile_text s p in
     let x : r ≡ judged_as false i c w = g c (ap (λ (y : Judged). y.state) e) in

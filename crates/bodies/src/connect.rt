@@ -3,12 +3,12 @@ ghost use Rattle.std.specs.Prelude.{◌≡◌, ◌≤◌};
 ghost use Rattle.message.specs.{Fields.described, Code.Cells.cells_at, Reading.gravest};
 ghost use Rattle.bodies.specs.Code.Read.{plain_of};
 
-use crate::{Bodied, part};
+use crate::{Held, part};
 use message::listed;
 use names::slots;
 use record::Body;
 
-pub fn con(s: &[u8], at: &[u16; 64], worst: u16) -> Bodied
+pub fn con(s: &[u8], at: &[u16; 64], worst: u16) -> Held<Body>
     ensures { result ≡ plain_of s.now at.now 0 worst }
 {
     let a = part::version(s, at[slots::VERSION], part::MUST, listed::VERSION, worst);
@@ -44,9 +44,9 @@ pub fn con(s: &[u8], at: &[u16; 64], worst: u16) -> Bodied
     let uuid = e.value;
     let station = f.value;
     let centre = g.value;
-    Bodied {
+    Held {
         worst: described(s, at, listed::CON_VENDOR, g.worst),
-        body: Body::Con(record::Con {
+        value: Body::Con(record::Con {
             version: release,
             bs_eui: b.value.value,
             bidi: c.value.value,
@@ -58,7 +58,7 @@ pub fn con(s: &[u8], at: &[u16; 64], worst: u16) -> Bodied
     }
 }
 
-pub fn con_rsp(s: &[u8], at: &[u16; 64], worst: u16) -> Bodied
+pub fn con_rsp(s: &[u8], at: &[u16; 64], worst: u16) -> Held<Body>
     ensures { result ≡ plain_of s.now at.now 1 worst }
 {
     let a = part::version(s, at[slots::VERSION], part::MAY, listed::VERSION, worst);
@@ -73,9 +73,9 @@ pub fn con_rsp(s: &[u8], at: &[u16; 64], worst: u16) -> Bodied
     let d = part::sixteen(s, at[slots::SN_SC_UUID], listed::SN_SC_UUID, c.worst);
     let release = a.value;
     let uuid = d.value;
-    Bodied {
+    Held {
         worst: described(s, at, listed::CON_RSP_VENDOR, d.worst),
-        body: Body::ConRsp(record::ConRsp {
+        value: Body::ConRsp(record::ConRsp {
             version: release,
             sc_eui: b.value.value,
             sn_resume: c.value.value,

@@ -2,11 +2,12 @@
 ghost use Rattle.std.specs.Prelude.{◌≡◌};
 ghost use Rattle.bodies.specs.Code.Read.{flags_as, downlink_of, miscounted_by, agree_by};
 
-use crate::{Bodied, HeldFlags, HeldParts, part};
+use crate::{Held, Marks, Parts, part};
 use message::{MaybeMark, listed};
 use names::slots;
+use record::Body;
 
-pub fn dl_data_que(s: &[u8], at: &[u16; 64], worst: u16) -> Bodied
+pub fn dl_data_que(s: &[u8], at: &[u16; 64], worst: u16) -> Held<Body>
     ensures { result ≡ downlink_of s.now at.now worst }
 {
     let a = part::word(s, at[slots::EP_EUI], part::MUST, listed::EP_EUI, worst);
@@ -29,28 +30,25 @@ pub fn dl_data_que(s: &[u8], at: &[u16; 64], worst: u16) -> Bodied
     let g = part::single(s, at[slots::PRIO], listed::PRIO, f.worst);
     let h = flags(s, at, g.worst);
     let depends = c.value;
-    let expected = h.response_exp;
-    let urgent = h.response_prio;
-    let window = h.dl_wind_req;
-    let only = h.exp_only;
-    Bodied {
-        worst: part::graver(h.worst, miscounted(depends, d, e)),
-        body: record::Body::DlDataQue(record::DlDataQue {
+    let marks = h.value;
+    Held {
+        worst: h.worst.max(miscounted(depends, d.value, e.value)),
+        value: Body::DlDataQue(record::DlDataQue {
             ep_eui: a.value.value,
             que_id: b.value.value,
             cnt_depend: depends.value,
-            entries: e.count,
+            entries: e.value.count,
             format: f.value,
             prio: g.value.value,
-            response_exp: expected,
-            response_prio: urgent,
-            dl_wind_req: window,
-            exp_only: only,
+            response_exp: marks.response_exp,
+            response_prio: marks.response_prio,
+            dl_wind_req: marks.dl_wind_req,
+            exp_only: marks.exp_only,
         }),
     }
 }
 
-fn flags(s: &[u8], at: &[u16; 64], worst: u16) -> HeldFlags
+fn flags(s: &[u8], at: &[u16; 64], worst: u16) -> Held<Marks>
     ensures { result ≡ flags_as s.now at.now worst }
 {
     let a = part::mark(
@@ -75,21 +73,19 @@ fn flags(s: &[u8], at: &[u16; 64], worst: u16) -> HeldFlags
         b.worst,
     );
     let d = part::mark(s, at[slots::EXP_ONLY], part::MAY, listed::EXP_ONLY, c.worst);
-    let expected = a.value;
-    let urgent = b.value;
-    let window = c.value;
-    let only = d.value;
-    HeldFlags {
+    Held {
         worst: d.worst,
-        response_exp: expected,
-        response_prio: urgent,
-        dl_wind_req: window,
-        exp_only: only,
+        value: Marks {
+            response_exp: a.value,
+            response_prio: b.value,
+            dl_wind_req: c.value,
+            exp_only: d.value,
+        },
     }
 }
 
 // cntDepend against its counts is invalid, at packetCnt's place, where all three are valid.
-fn miscounted(depends: MaybeMark, counters: HeldParts, entries: HeldParts) -> u16
+fn miscounted(depends: MaybeMark, counters: Parts, entries: Parts) -> u16
     ensures { result ≡ miscounted_by depends counters entries }
 {
     let known = (counters.state == part::GOOD) | (counters.state == part::MISSING);
@@ -104,7 +100,7 @@ fn miscounted(depends: MaybeMark, counters: HeldParts, entries: HeldParts) -> u1
 }
 
 // As many entries as counters, at least one; or one entry and no counters.
-fn agree(depends: bool, counters: HeldParts, entries: HeldParts) -> bool
+fn agree(depends: bool, counters: Parts, entries: Parts) -> bool
     ensures { result ≡ agree_by depends counters entries }
 {
     let given = counters.state == part::GOOD;

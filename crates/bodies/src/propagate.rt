@@ -2,12 +2,12 @@
 ghost use Rattle.std.specs.Prelude.{◌≡◌};
 ghost use Rattle.bodies.specs.Code.Read.{plain_of};
 
-use crate::{Bodied, part};
+use crate::{Held, part};
 use message::listed;
 use names::slots;
 use record::Body;
 
-pub fn att_prp(s: &[u8], at: &[u16; 64], worst: u16) -> Bodied
+pub fn att_prp(s: &[u8], at: &[u16; 64], worst: u16) -> Held<Body>
     ensures { result ≡ plain_of s.now at.now 5 worst }
 {
     let a = part::word(s, at[slots::EP_EUI], part::MUST, listed::EP_EUI, worst);
@@ -55,9 +55,9 @@ pub fn att_prp(s: &[u8], at: &[u16; 64], worst: u16) -> Bodied
         h.worst,
     );
     let key = c.value;
-    Bodied {
+    Held {
         worst: i.worst,
-        body: Body::AttPrp(record::AttPrp {
+        value: Body::AttPrp(record::AttPrp {
             ep_eui: a.value.value,
             bidi: b.value.value,
             nwk_sn_key: key,
@@ -71,12 +71,12 @@ pub fn att_prp(s: &[u8], at: &[u16; 64], worst: u16) -> Bodied
     }
 }
 
-pub fn det_prp(s: &[u8], at: &[u16; 64], worst: u16) -> Bodied
+pub fn det_prp(s: &[u8], at: &[u16; 64], worst: u16) -> Held<Body>
     ensures { result ≡ plain_of s.now at.now 6 worst }
 {
     let a = part::word(s, at[slots::EP_EUI], part::MUST, listed::EP_EUI, worst);
-    Bodied {
+    Held {
         worst: a.worst,
-        body: Body::DetPrp(a.value.value),
+        value: Body::DetPrp(a.value.value),
     }
 }

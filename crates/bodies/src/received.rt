@@ -2,12 +2,12 @@
 ghost use Rattle.std.specs.Prelude.{◌≡◌};
 ghost use Rattle.bodies.specs.Code.Read.{packet_as, plain_of, Bodying, bodying, crossed_by, bodied_of};
 
-use crate::{Bodied, HeldPacket, part};
+use crate::{Held, part};
 use message::listed;
 use names::slots;
 use record::Body;
 
-fn packet(s: &[u8], at: &[u16; 64], worst: u16) -> HeldPacket
+fn packet(s: &[u8], at: &[u16; 64], worst: u16) -> Held<record::Packet>
     ensures { result ≡ packet_as s.now at.now worst }
 {
     let a = part::word(s, at[slots::EP_EUI], part::MUST, listed::EP_EUI, worst);
@@ -25,8 +25,8 @@ fn packet(s: &[u8], at: &[u16; 64], worst: u16) -> HeldPacket
     let g = part::real(s, at[slots::EQ_SNR], part::MAY, listed::EQ_SNR, f.worst);
     let h = part::profile(s, at[slots::PROFILE], listed::PROFILE, g.worst);
     let duration = c.value;
-    let text = h.value;
-    HeldPacket {
+    let profile = h.value;
+    Held {
         worst: h.worst,
         value: record::Packet {
             ep_eui: a.value.value,
@@ -39,38 +39,38 @@ fn packet(s: &[u8], at: &[u16; 64], worst: u16) -> HeldPacket
                 eq_snr: g.value.value,
                 has_eq_snr: g.value.here,
             },
-            profile_len: h.len,
-            profile: text,
+            profile_len: profile.len,
+            profile: profile.text,
         },
     }
 }
 
-pub fn det(s: &[u8], at: &[u16; 64], worst: u16) -> Bodied
+pub fn det(s: &[u8], at: &[u16; 64], worst: u16) -> Held<Body>
     ensures { result ≡ plain_of s.now at.now 3 worst }
 {
     let p = packet(s, at, worst);
     let sign = part::four(s, at[slots::SIGN], listed::DET_SIGN, p.worst);
     let heard = p.value;
-    Bodied {
+    Held {
         worst: part::table(s, at[slots::SUBPACKETS], listed::DET_SUBPACKETS, sign.worst),
-        body: Body::Det(record::Det {
+        value: Body::Det(record::Det {
             packet: heard,
             sign: sign.value,
         }),
     }
 }
 
-pub fn det_rsp(s: &[u8], at: &[u16; 64], worst: u16) -> Bodied
+pub fn det_rsp(s: &[u8], at: &[u16; 64], worst: u16) -> Held<Body>
     ensures { result ≡ plain_of s.now at.now 4 worst }
 {
     let sign = part::four(s, at[slots::SIGN], listed::DET_RSP_SIGN, worst);
-    Bodied {
+    Held {
         worst: sign.worst,
-        body: Body::DetRsp(sign.value),
+        value: Body::DetRsp(sign.value),
     }
 }
 
-pub fn ul_data(s: &[u8], at: &[u16; 64], user: &mut [u8; 245], worst: u16) -> Bodied
+pub fn ul_data(s: &[u8], at: &[u16; 64], user: &mut [u8; 245], worst: u16) -> Held<Body>
     ensures { ◌≡◌ {A = Bodying} (bodying result user.new) (bodied_of s.now at.now 7 user.old worst) }
 {
     let p = packet(s, at, worst);
@@ -88,9 +88,9 @@ pub fn ul_data(s: &[u8], at: &[u16; 64], user: &mut [u8; 245], worst: u16) -> Bo
     let f = part::unkept(s, at[slots::MODE], part::MAY, listed::MODE, e.worst);
     let g = part::table(s, at[slots::SUBPACKETS], listed::UL_DATA_SUBPACKETS, f);
     let heard = p.value;
-    Bodied {
-        worst: part::graver(g, crossed(d.value.value, c.value.here, c.value.value)),
-        body: Body::UlData(record::UlData {
+    Held {
+        worst: g.max(crossed(d.value.value, c.value.here, c.value.value)),
+        value: Body::UlData(record::UlData {
             packet: heard,
             user_len: a.value,
             format: b.value,

@@ -2,11 +2,12 @@
 ghost use Rattle.std.specs.Prelude.{◌≡◌};
 ghost use Rattle.bodies.specs.Code.Read.{plain_of};
 
-use crate::{Bodied, part};
+use crate::{Held, part};
 use message::listed;
 use names::slots;
+use record::Body;
 
-pub fn status_rsp(s: &[u8], at: &[u16; 64], worst: u16) -> Bodied
+pub fn status_rsp(s: &[u8], at: &[u16; 64], worst: u16) -> Held<Body>
     ensures { result ≡ plain_of s.now at.now 2 worst }
 {
     let a = part::code(s, at[slots::CODE], listed::CODE, worst);
@@ -34,9 +35,9 @@ pub fn status_rsp(s: &[u8], at: &[u16; 64], worst: u16) -> Bodied
     let temp = g.value;
     let cpu = h.value;
     let mem = i.value;
-    Bodied {
+    Held {
         worst: part::table(s, at[slots::CONFIG], listed::CONFIG, i.worst),
-        body: record::Body::StatusRsp(record::StatusRsp {
+        value: Body::StatusRsp(record::StatusRsp {
             code: a.value,
             message_len: b.value,
             time: c.value.value,

@@ -6,4 +6,4 @@ pub returns : goal.returns
 returns c =
     downlink_is _ _ _ _ _ _ _ _ _ _ _ _ _ c.word-a.ensures c.word-b.ensures c.mark-c.ensures
     c.counters-d.ensures c.entries-e.ensures c.format-f.ensures
-    c.single-g.ensures c.flags-h.ensures c.miscounted.ensures c.graver.ensures
+    c.single-g.ensures c.flags-h.ensures c.miscounted.ensures c.max.ensures

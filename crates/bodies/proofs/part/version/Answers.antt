@@ -1,5 +1,5 @@
 use borrow.Author.Rules.{rules}
-use Rattle.bodies.proofs.Parts.{parts}
+use Rattle.bodies.proofs.Readers.{parts}
 use Rattle.std.proofs.Common.{rules}
 use Rattle.bodies.proofs.part.version.Goals as goal
 

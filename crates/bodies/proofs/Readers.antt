@@ -12,8 +12,10 @@ use Rattle.field.specs.declared.{Judged.Judged, Located.Located, Released.Releas
 use Rattle.field.specs.Kind.{Kind, unsigned32, unsigned16, unsigned8, signed32, user_bytes, status_text}
 use Rattle.field.specs.{Cell.Cell, Cell.here, Code.At.cell_at}
 use Rattle.field.specs.Code.Told.{cell_state, told_of, located_of, released_of}
-use Rattle.message.specs.{Record.word_in, Record.id_in, Record.mark_in, Reading.cell_fault, Reading.graded}
-use Rattle.bodies.specs.Code.Held.{judged_as, word_as, count_as, short_as, octet_as, id_as, code_as, mark_as, parts_as, real_as, position_as, version_as}
+use Rattle.message.specs.Record.{word_in, id_in, mark_in, maybe_word, maybe_id, maybe_real, maybe_mark, maybe_position}
+use Rattle.message.specs.Reading.{cell_fault, graded}
+use Rattle.record.specs.Record.{maybe_version}
+use Rattle.bodies.specs.Code.Held.{judged_as, held_as, parts_in}
 use Rattle.bodies.proofs.Worth.{Most, worth, here_state, low_word, id_word, code_word, mark_word}
 
 -- a fault
@@ -87,21 +89,21 @@ module _ (c : Cell) (j : Judged) (e : j ≡ told_of c) where
     pub judged_is : r ≡ judged_as must i c w
     judged_is = g c (ap (λ (x : Judged). x.state) e)
 
-    pub word_is : record { worst = r; value = record { here = eqb j.state 0; value = j.word } } ≡ word_as must i c w
-    unfolding word_as
+    pub word_is : record { worst = r; value = record { here = eqb j.state 0; value = j.word } } ≡ held_as maybe_word must i c w
+    unfolding held_as
     word_is = let a = judged_is in let b = here_is in cc
 
-    pub real_is : record { worst = r; value = record { here = eqb j.state 0; value = j.figure } } ≡ real_as must i c w
-    unfolding real_as
+    pub real_is : record { worst = r; value = record { here = eqb j.state 0; value = j.figure } } ≡ held_as maybe_real must i c w
+    unfolding held_as
     real_is = let a = judged_is in let b = here_is in cc
 
-    octet_is : word_in c % 2 ^ 8 ≡ word_in c → record { worst = r; value = j.word % 256 } ≡ octet_as must i c w
-    unfolding octet_as
+    octet_is : word_in c % 2 ^ 8 ≡ word_in c → record { worst = r; value = j.word % 256 } ≡ held_as word_in must i c w
+    unfolding held_as
     octet_is l = let a = judged_is in let b : j.word % 256 ≡ word_in c = ap (λ (n : ℕ). n % 256) word_of ∙ l in cc
 
     id_is : signed_of 64 (word_in c) ≡ id_in c → (z : ℤ) → SFits w64 z → z ≡ signed_of 64 j.word
-        → record { worst = r; value = record { here = eqb j.state 0; value = to_z w64 (of_z w64 z) } } ≡ id_as must i c w
-    unfolding id_as
+        → record { worst = r; value = record { here = eqb j.state 0; value = to_z w64 (of_z w64 z) } } ≡ held_as maybe_id must i c w
+    unfolding held_as
     id_is l z f q =
         let a = judged_is in
         let b = here_is in
@@ -111,24 +113,24 @@ module _ (c : Cell) (j : Judged) (e : j ≡ told_of c) where
 -- by kind
 module _ (s : List ℕ) (p i w r : ℕ) (j : Judged) where
   module _ (g : Passed r i w true j.state) where
-    pub count_is : j ≡ told_of (cell_at unsigned32 s p) → record { worst = r; value = j.word % 4294967296 } ≡ count_as i (cell_at unsigned32 s p) w
-    unfolding count_as
+    pub count_is : j ≡ told_of (cell_at unsigned32 s p) → record { worst = r; value = j.word % 4294967296 } ≡ held_as word_in true i (cell_at unsigned32 s p) w
+    unfolding held_as
     count_is e =
         let c = cell_at unsigned32 s p in
         let a = judged_is c j e true i w r g in
         let b : j.word % 4294967296 ≡ word_in c = ap (λ (n : ℕ). n % 4294967296) (word_of c j e) ∙ low_word unsigned32 32 0xFFFFFFFF (Most.whole 0xFFFFFFFF) (omega arith) c (worth unsigned32 s p) in
         cc
 
-    pub short_is : j ≡ told_of (cell_at unsigned16 s p) → record { worst = r; value = j.word % 65536 } ≡ short_as i (cell_at unsigned16 s p) w
-    unfolding short_as
+    pub short_is : j ≡ told_of (cell_at unsigned16 s p) → record { worst = r; value = j.word % 65536 } ≡ held_as word_in true i (cell_at unsigned16 s p) w
+    unfolding held_as
     short_is e =
         let c = cell_at unsigned16 s p in
         let a = judged_is c j e true i w r g in
         let b : j.word % 65536 ≡ word_in c = ap (λ (n : ℕ). n % 65536) (word_of c j e) ∙ low_word unsigned16 16 0xFFFF (Most.whole 0xFFFF) (omega arith) c (worth unsigned16 s p) in
         cc
 
-    pub code_is : j ≡ told_of (cell_at signed32 s p) → (z : ℤ) → SFits w32 z → z ≡ signed_of 32 (j.word % 4294967296) → record { worst = r; value = to_z w32 (of_z w32 z) } ≡ code_as i (cell_at signed32 s p) w
-    unfolding code_as
+    pub code_is : j ≡ told_of (cell_at signed32 s p) → (z : ℤ) → SFits w32 z → z ≡ signed_of 32 (j.word % 4294967296) → record { worst = r; value = to_z w32 (of_z w32 z) } ≡ held_as id_in true i (cell_at signed32 s p) w
+    unfolding held_as
     code_is e z f q =
         let c = cell_at signed32 s p in
         let a = judged_is c j e true i w r g in
@@ -136,17 +138,17 @@ module _ (s : List ℕ) (p i w r : ℕ) (j : Judged) where
         to_z-of_z w32 z f ∙ (q ∙ (ap (λ (n : ℕ). signed_of 32 (n % 2 ^ 32)) (word_of c j e) ∙ code_word 0x80000000 0x7FFFFFFF (omega arith) (omega arith) c (worth signed32 s p))) in
         cc
 
-    pub letters_is : j ≡ told_of (cell_at status_text s p) → record { worst = r; value = j.word % 256 } ≡ octet_as true i (cell_at status_text s p) w
+    pub letters_is : j ≡ told_of (cell_at status_text s p) → record { worst = r; value = j.word % 256 } ≡ held_as word_in true i (cell_at status_text s p) w
     letters_is e = octet_is (cell_at status_text s p) j e true i w r g (low_word status_text 8 64 (Most.text 0 64) (omega arith) (cell_at status_text s p) (worth status_text s p))
 
-    pub octets_is : (n : ℕ) → n ≡ 245 → j ≡ told_of (cell_at (Kind.arrays 0 n) s p) → record { worst = r; value = j.word % 256 } ≡ octet_as true i (cell_at user_bytes s p) w
+    pub octets_is : (n : ℕ) → n ≡ 245 → j ≡ told_of (cell_at (Kind.arrays 0 n) s p) → record { worst = r; value = j.word % 256 } ≡ held_as word_in true i (cell_at user_bytes s p) w
     octets_is n l q =
         let e : j ≡ told_of (cell_at user_bytes s p) = q ∙ ap (λ (m : ℕ). told_of (cell_at (Kind.arrays 0 m) s p)) l in
         octet_is (cell_at user_bytes s p) j e true i w r g (low_word user_bytes 8 245 (Most.octets 0 245) (omega arith) (cell_at user_bytes s p) (worth user_bytes s p))
 
   pub mark_is : (must : Bool) → Passed r i w must j.state → j ≡ told_of (cell_at Kind.flags s p)
-      → record { worst = r; value = record { here = eqb j.state 0; value = eqb j.word 1 } } ≡ mark_as must i (cell_at Kind.flags s p) w
-  unfolding mark_as
+      → record { worst = r; value = record { here = eqb j.state 0; value = eqb j.word 1 } } ≡ held_as maybe_mark must i (cell_at Kind.flags s p) w
+  unfolding held_as
   mark_is must g e =
       let c = cell_at Kind.flags s p in
       let a = judged_is c j e must i w r g in
@@ -155,8 +157,8 @@ module _ (s : List ℕ) (p i w r : ℕ) (j : Judged) where
       cc
 
   parts_is : (k : Kind) (must : Bool) → Most k 16 → Passed r i w must j.state → j ≡ told_of (cell_at k s p)
-      → record { worst = r; state = j.state; count = j.word % 256 } ≡ parts_as must i (cell_at k s p) w
-  unfolding parts_as
+      → record { worst = r; value = record { state = j.state; count = j.word % 256 } } ≡ held_as parts_in must i (cell_at k s p) w
+  unfolding held_as
   parts_is k must l g e =
       let c = cell_at k s p in
       let a = judged_is c j e must i w r g in
@@ -165,31 +167,31 @@ module _ (s : List ℕ) (p i w r : ℕ) (j : Judged) where
       cc
 
   pub counters_is : Passed r i w false j.state → j ≡ told_of (cell_at (Kind.counters 16) s p)
-      → record { worst = r; state = j.state; count = j.word % 256 } ≡ parts_as false i (cell_at (Kind.counters 16) s p) w
+      → record { worst = r; value = record { state = j.state; count = j.word % 256 } } ≡ held_as parts_in false i (cell_at (Kind.counters 16) s p) w
   counters_is g e = parts_is (Kind.counters 16) false (Most.counters 16) g e
 
   pub entries_is : Passed r i w true j.state → j ≡ told_of (cell_at (Kind.pieces 16 245 800) s p)
-      → record { worst = r; state = j.state; count = j.word % 256 } ≡ parts_as true i (cell_at (Kind.pieces 16 245 800) s p) w
+      → record { worst = r; value = record { state = j.state; count = j.word % 256 } } ≡ held_as parts_in true i (cell_at (Kind.pieces 16 245 800) s p) w
   entries_is g e = parts_is (Kind.pieces 16 245 800) true (Most.pieces 16 245 800) g e
 
-  pub format_is : Passed r i w false j.state → j ≡ told_of (cell_at unsigned8 s p) → record { worst = r; value = j.word % 256 } ≡ octet_as false i (cell_at unsigned8 s p) w
+  pub format_is : Passed r i w false j.state → j ≡ told_of (cell_at unsigned8 s p) → record { worst = r; value = j.word % 256 } ≡ held_as word_in false i (cell_at unsigned8 s p) w
   format_is g e = octet_is (cell_at unsigned8 s p) j e false i w r g (low_word unsigned8 8 0xFF (Most.whole 0xFF) (omega arith) (cell_at unsigned8 s p) (worth unsigned8 s p))
 
   pub number_is : (lo hi : ℕ) (must : Bool) → lo ≤ 2 ^ 63 → hi < 2 ^ 63 → Passed r i w must j.state → j ≡ told_of (cell_at (Kind.wholes lo hi) s p) → (z : ℤ) → SFits w64 z → z ≡ signed_of 64 j.word
-      → record { worst = r; value = record { here = eqb j.state 0; value = to_z w64 (of_z w64 z) } } ≡ id_as must i (cell_at (Kind.wholes lo hi) s p) w
+      → record { worst = r; value = record { here = eqb j.state 0; value = to_z w64 (of_z w64 z) } } ≡ held_as maybe_id must i (cell_at (Kind.wholes lo hi) s p) w
   number_is lo hi must a b g e z f q = id_is (cell_at (Kind.wholes lo hi) s p) j e must i w r g (id_word lo hi a b (cell_at (Kind.wholes lo hi) s p) (worth (Kind.wholes lo hi) s p)) z f q
 
 module _ (c : Cell) (i w r : ℕ) where
-  pub position_is : (j : Located) → j ≡ located_of c → Passed r i w false j.state → record { worst = r; value = record { here = eqb j.state 0; value = j.position } } ≡ position_as i c w
-  unfolding position_as
+  pub position_is : (j : Located) → j ≡ located_of c → Passed r i w false j.state → record { worst = r; value = record { here = eqb j.state 0; value = j.position } } ≡ held_as maybe_position false i c w
+  unfolding held_as
   position_is j e g =
       let a : r ≡ judged_as false i c w = g c (ap (λ (x : Located). x.state) e) in
       let b : eqb j.state 0 ≡ here c = ap (λ (x : Located). eqb x.state 0) e ∙ here_state c in
       cc
 
   pub version_is : (must : Bool) (j : Released) → j ≡ released_of c → Passed r i w must j.state
-      → record { worst = r; value = record { here = eqb j.state 0; major = j.major; minor = j.minor; patch = j.patch } } ≡ version_as must i c w
-  unfolding version_as
+      → record { worst = r; value = record { here = eqb j.state 0; major = j.major; minor = j.minor; patch = j.patch } } ≡ held_as maybe_version must i c w
+  unfolding held_as
   version_is must j e g =
       let a : r ≡ judged_as must i c w = g c (ap (λ (x : Released). x.state) e) in
       let b : eqb j.state 0 ≡ here c = ap (λ (x : Released). eqb x.state 0) e ∙ here_state c in
