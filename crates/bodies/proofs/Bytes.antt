@@ -24,7 +24,6 @@ use Rattle.record.specs.Record.{bytes_in, four_of, four_in, sixteen_of, sixteen_
 use Rattle.record.proofs.Packed.{sixteen_padded}
 use Rattle.bodies.specs.Code.Held.{judged_as, held_as, profile_in, exactly, four_if, sixteen_if}
 use Rattle.bodies.proofs.Values.{IsString, arrays_are, texts_are, arrays_more, texts_put}
-use Rattle.bodies.proofs.Worth.{Most, worth, low_word}
 
 -- how an array of at most n bytes stands says how one of exactly n does
 exact_sized : (n : ℕ) (d : List ℕ) → exactly (cell_state (judged (string_sized 0 n d))) (word_in (judged (string_sized 0 n d))) n ≡ cell_state (judged (string_sized n n d))
@@ -195,12 +194,12 @@ module _ (s a : List ℕ) (p i w r : ℕ) (j : Judged) (state : ℕ) where
 
 pub profile_is : (s a : List ℕ) (p i w r : ℕ) (j : Judged) → ((d : Cell) → j.state ≡ cell_state d → r ≡ judged_as false i d w) → j ≡ told_of (cell_at profile_text s p)
     → a ≡ string_filled (judge (Kind.texts 0 16) (shallow_at s p)) (replicate 16 0)
-    → (v : Sixteen) → v ≡ sixteen_if (eqb j.state 0) a → record { worst = r; value = record { len = j.word % 256; text = v } } ≡ held_as profile_in false i (cell_at profile_text s p) w
+    → (v : Sixteen) → v ≡ sixteen_if (eqb j.state 0) a → record { worst = r; value = record { len = j.word; text = v } } ≡ held_as profile_in false i (cell_at profile_text s p) w
 unfolding held_as sixteen_if
 profile_is s a p i w r j g e b v h =
     let c = cell_at profile_text s p in
     let x : r ≡ judged_as false i c w = g c (ap (λ (y : Judged). y.state) e) in
-    let l : j.word % 256 ≡ word_in c = ap (λ (y : Judged). y.word % 256) e ∙ low_word profile_text 8 16 (Most.text 1 16) (omega arith) c (worth profile_text s p) in
+    let l : j.word ≡ word_in c = ap (λ (y : Judged). y.word) e in
     let z : v ≡ sixteen_in c =
     h ∙ (ap (λ (y : Judged). either (eqb y.state 0) (λ _. sixteen_of a) (λ _. sixteen_of [])) e ∙ (ap (if_good sixteen_of c) b ∙ text_bytes 1 s p)) in
     cc

@@ -22,15 +22,6 @@ pub const OP_ID_LOW: u64 = 0x8000_0000_0000_0000;
 
 pub const OP_ID_HIGH: u64 = 0x7FFF_FFFF_FFFF_FFFF;
 
-// The greatest numbers of 64, 32, 16 and 8 bits.
-const MOST64: u64 = 0xFFFF_FFFF_FFFF_FFFF;
-
-const MOST32: u64 = 0xFFFF_FFFF;
-
-const MOST16: u64 = 0xFFFF;
-
-const MOST8: u64 = 0xFF;
-
 // How a field's value stands, as `field` says it.
 pub const GOOD: u8 = 0;
 
@@ -91,11 +82,12 @@ fn passed(worst: u16, i: u8, must: bool, state: u8) -> u16
 }
 
 // A number of 64 bits.
+#[tactic(auto, using(crate::proofs::Worth::here_state), unfolding(crate::specs::Code::Held::held_as))]
 pub fn word(s: &[u8], p: u16, must: bool, i: u8, worst: u16) -> Held<MaybeWord>
     requires { i < 64 }
     ensures { result ≡ held_as maybe_word must i (cell_at unsigned64 s.now p) worst }
 {
-    let j = field::whole_cell(s, p as usize, 0, MOST64);
+    let j = field::whole_cell(s, p as usize, 0, u64::MAX);
     Held {
         worst: passed(worst, i, must, j.state),
         value: MaybeWord {
@@ -105,39 +97,53 @@ pub fn word(s: &[u8], p: u16, must: bool, i: u8, worst: u16) -> Held<MaybeWord>
     }
 }
 
-// A counter: 32 bits.
+// A natural number of at most `most`, 0 where it is absent: what counters, short addresses and formats are, each at its width.
+#[tactic(auto, using(crate::proofs::Readers::withins), unfolding(crate::specs::Code::Held::held_as))]
+fn natural(s: &[u8], p: u16, most: u64, must: bool, i: u8, worst: u16) -> Held<u64>
+    requires { i < 64 }
+    ensures held { result ≡ held_as word_in must i (cell_at (Kind.wholes 0 most) s.now p) worst }
+    ensures within { result.value ≤ most }
+{
+    let j = field::whole_cell(s, p as usize, 0, most);
+    Held {
+        worst: passed(worst, i, must, j.state),
+        value: j.word,
+    }
+}
+
+// A counter.
 pub fn count(s: &[u8], p: u16, i: u8, worst: u16) -> Held<u32>
     requires { i < 64 }
     ensures { result ≡ held_as word_in true i (cell_at unsigned32 s.now p) worst }
 {
-    let j = field::whole_cell(s, p as usize, 0, MOST32);
+    let n = natural(s, p, u64::from(u32::MAX), MUST, i, worst);
     Held {
-        worst: passed(worst, i, MUST, j.state),
-        value: (j.word % 0x1_0000_0000) as u32,
+        worst: n.worst,
+        value: n.value as u32,
     }
 }
 
-// A short address: 16 bits.
+// A short address.
 pub fn short(s: &[u8], p: u16, i: u8, worst: u16) -> Held<u16>
     requires { i < 64 }
     ensures { result ≡ held_as word_in true i (cell_at unsigned16 s.now p) worst }
 {
-    let j = field::whole_cell(s, p as usize, 0, MOST16);
+    let n = natural(s, p, u64::from(u16::MAX), MUST, i, worst);
     Held {
-        worst: passed(worst, i, MUST, j.state),
-        value: (j.word % 0x1_0000) as u16,
+        worst: n.worst,
+        value: n.value as u16,
     }
 }
 
-// A format: 8 bits, 0 where it is absent.
+// A format, 0 where it is absent.
 pub fn format(s: &[u8], p: u16, i: u8, worst: u16) -> Held<u8>
     requires { i < 64 }
     ensures { result ≡ held_as word_in false i (cell_at unsigned8 s.now p) worst }
 {
-    let j = field::whole_cell(s, p as usize, 0, MOST8);
+    let n = natural(s, p, u64::from(u8::MAX), MAY, i, worst);
     Held {
-        worst: passed(worst, i, MAY, j.state),
-        value: (j.word % 0x100) as u8,
+        worst: n.worst,
+        value: n.value as u8,
     }
 }
 
@@ -168,6 +174,7 @@ pub fn code(s: &[u8], p: u16, i: u8, worst: u16) -> Held<i32>
     }
 }
 
+#[tactic(auto, using(crate::proofs::Worth::here_state, crate::proofs::Readers::mark_told), unfolding(crate::specs::Code::Held::held_as))]
 pub fn mark(s: &[u8], p: u16, must: bool, i: u8, worst: u16) -> Held<MaybeMark>
     requires { i < 64 }
     ensures { result ≡ held_as maybe_mark must i (cell_at Kind.flags s.now p) worst }
@@ -182,6 +189,7 @@ pub fn mark(s: &[u8], p: u16, must: bool, i: u8, worst: u16) -> Held<MaybeMark>
     }
 }
 
+#[tactic(auto, using(crate::proofs::Worth::here_state), unfolding(crate::specs::Code::Held::held_as))]
 pub fn real(s: &[u8], p: u16, must: bool, i: u8, worst: u16) -> Held<MaybeReal>
     requires { i < 64 }
     ensures { result ≡ held_as maybe_real must i (cell_at Kind.reals s.now p) worst }
@@ -197,6 +205,7 @@ pub fn real(s: &[u8], p: u16, must: bool, i: u8, worst: u16) -> Held<MaybeReal>
 }
 
 // A real that single precision holds exactly.
+#[tactic(auto, using(crate::proofs::Worth::here_state), unfolding(crate::specs::Code::Held::held_as))]
 pub fn single(s: &[u8], p: u16, i: u8, worst: u16) -> Held<MaybeReal>
     requires { i < 64 }
     ensures { result ≡ held_as maybe_real false i (cell_at Kind.singles s.now p) worst }
@@ -212,6 +221,7 @@ pub fn single(s: &[u8], p: u16, i: u8, worst: u16) -> Held<MaybeReal>
 }
 
 // How many counters there are, and how many data entries; both are looked at where they stand.
+#[tactic(auto, using(crate::proofs::Readers::withins), unfolding(crate::specs::Code::Held::held_as))]
 pub fn counters(s: &[u8], p: u16, i: u8, worst: u16) -> Held<Parts>
     requires { i < 64 }
     ensures { result ≡ held_as parts_in false i (cell_at (Kind.counters 16) s.now p) worst }
@@ -221,11 +231,12 @@ pub fn counters(s: &[u8], p: u16, i: u8, worst: u16) -> Held<Parts>
         worst: passed(worst, i, MAY, j.state),
         value: Parts {
             state: j.state,
-            count: (j.word % 0x100) as u8,
+            count: j.word as u8,
         },
     }
 }
 
+#[tactic(auto, using(crate::proofs::Readers::withins), unfolding(crate::specs::Code::Held::held_as))]
 pub fn entries(s: &[u8], p: u16, i: u8, worst: u16) -> Held<Parts>
     requires { i < 64 }
     ensures { result ≡ held_as parts_in true i (cell_at (Kind.pieces 16 245 800) s.now p) worst }
@@ -235,11 +246,12 @@ pub fn entries(s: &[u8], p: u16, i: u8, worst: u16) -> Held<Parts>
         worst: passed(worst, i, MUST, j.state),
         value: Parts {
             state: j.state,
-            count: (j.word % 0x100) as u8,
+            count: j.word as u8,
         },
     }
 }
 
+#[tactic(auto, using(crate::proofs::Worth::here_state), unfolding(crate::specs::Code::Held::held_as))]
 pub fn position(s: &[u8], p: u16, i: u8, worst: u16) -> Held<MaybePosition>
     requires { i < 64 }
     ensures { result ≡ held_as maybe_position false i (cell_at Kind.positions s.now p) worst }
@@ -255,6 +267,7 @@ pub fn position(s: &[u8], p: u16, i: u8, worst: u16) -> Held<MaybePosition>
     }
 }
 
+#[tactic(auto, using(crate::proofs::Worth::here_state), unfolding(crate::specs::Code::Held::held_as))]
 pub fn version(s: &[u8], p: u16, must: bool, i: u8, worst: u16) -> Held<MaybeVersion>
     requires { i < 64 }
     ensures { result ≡ held_as maybe_version must i (cell_at Kind.versions s.now p) worst }
@@ -272,6 +285,7 @@ pub fn version(s: &[u8], p: u16, must: bool, i: u8, worst: u16) -> Held<MaybeVer
 }
 
 // How many bytes a text of at most 64 has.
+#[tactic(auto, using(crate::proofs::Readers::withins), unfolding(crate::specs::Code::Held::held_as))]
 pub fn letters(s: &[u8], p: u16, i: u8, worst: u16) -> Held<u8>
     requires { i < 64 }
     ensures { result ≡ held_as word_in true i (cell_at status_text s.now p) worst }
@@ -279,11 +293,12 @@ pub fn letters(s: &[u8], p: u16, i: u8, worst: u16) -> Held<u8>
     let j = field::text_cell(s, p as usize, 0, MOST_MESSAGE);
     Held {
         worst: passed(worst, i, MUST, j.state),
-        value: (j.word % 0x100) as u8,
+        value: j.word as u8,
     }
 }
 
 // How many bytes an array has, which are put into the room.
+#[tactic(auto, using(crate::proofs::Readers::withins), unfolding(crate::specs::Code::Held::held_as))]
 pub fn octets(s: &[u8], p: u16, room: &mut [u8; 245], i: u8, worst: u16) -> Held<u8>
     requires { i < 64 }
     ensures held { result ≡ held_as word_in true i (cell_at user_bytes s.now p) worst }
@@ -292,7 +307,7 @@ pub fn octets(s: &[u8], p: u16, room: &mut [u8; 245], i: u8, worst: u16) -> Held
     let j = field::octets_read(s, p as usize, room);
     Held {
         worst: passed(worst, i, MUST, j.state),
-        value: (j.word % 0x100) as u8,
+        value: j.word as u8,
     }
 }
 
@@ -314,6 +329,7 @@ pub fn table(s: &[u8], p: u16, i: u8, worst: u16) -> u16
 }
 
 // An array of exactly n bytes, by how one of at most n stands.
+#[tactic(auto, using(crate::proofs::Bytes::exacts))]
 fn exact(state: u8, len: u64, n: u64) -> u8
     ensures { result ≡ exactly state len n }
 {
@@ -351,6 +367,7 @@ pub fn four(s: &[u8], p: u16, i: u8, worst: u16) -> Held<u32>
 }
 
 // A profile's text.
+#[tactic(auto, using(crate::proofs::Readers::withins))]
 pub fn profile(s: &[u8], p: u16, i: u8, worst: u16) -> Held<Profile>
     requires { i < 64 }
     ensures { result ≡ held_as profile_in false i (cell_at profile_text s.now p) worst }
@@ -361,13 +378,14 @@ pub fn profile(s: &[u8], p: u16, i: u8, worst: u16) -> Held<Profile>
     Held {
         worst: passed(worst, i, MAY, j.state),
         value: Profile {
-            len: (j.word % 0x100) as u8,
+            len: j.word as u8,
             text: halves(&a, j.state == GOOD),
         },
     }
 }
 
 // Bytes as numbers, where they are a field's; else zeros.
+#[tactic(auto, using(crate::proofs::Bytes::numbers))]
 fn halves(a: &[u8; 16], whole: bool) -> Sixteen
     ensures { result ≡ sixteen_if whole a.now }
 {
@@ -380,6 +398,7 @@ fn halves(a: &[u8; 16], whole: bool) -> Sixteen
     Sixteen { high: 0, low: 0 }
 }
 
+#[tactic(auto, using(crate::proofs::Bytes::numbers))]
 fn quarter(a: &[u8; 4], whole: bool) -> u32
     ensures { result ≡ four_if whole a.now }
 {
