@@ -58,6 +58,7 @@ pub fn con(s: &[u8], at: &[u16; 64], worst: u16) -> Held<Body>
     }
 }
 
+#[tactic(auto, using(crate::proofs::Commands::con_rsp_is))]
 pub fn con_rsp(s: &[u8], at: &[u16; 64], worst: u16) -> Held<Body>
     ensures { result ≡ plain_of s.now at.now 1 worst }
 {
@@ -85,6 +86,7 @@ pub fn con_rsp(s: &[u8], at: &[u16; 64], worst: u16) -> Held<Body>
 }
 
 // The D fields of both, from a place of the list on.
+#[tactic(auto, using(crate::proofs::Commands::described_is))]
 fn described(s: &[u8], at: &[u16; 64], i: u8, worst: u16) -> u16
     requires { i ≤ 32 }
     ensures { result ≡ gravest worst i described (cells_at described s.now at.now) }

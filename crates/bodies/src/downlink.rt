@@ -48,6 +48,7 @@ pub fn dl_data_que(s: &[u8], at: &[u16; 64], worst: u16) -> Held<Body>
     }
 }
 
+#[tactic(auto, using(crate::proofs::Downlinks::flags_is))]
 fn flags(s: &[u8], at: &[u16; 64], worst: u16) -> Held<Marks>
     ensures { result ≡ flags_as s.now at.now worst }
 {
@@ -85,6 +86,7 @@ fn flags(s: &[u8], at: &[u16; 64], worst: u16) -> Held<Marks>
 }
 
 // cntDepend against its counts is invalid, at packetCnt's place, where all three are valid.
+#[tactic(auto, unfolding(crate::specs::Code::Read::miscounted_by))]
 fn miscounted(depends: MaybeMark, counters: Parts, entries: Parts) -> u16
     ensures { result ≡ miscounted_by depends counters entries }
 {
@@ -100,6 +102,7 @@ fn miscounted(depends: MaybeMark, counters: Parts, entries: Parts) -> u16
 }
 
 // As many entries as counters, at least one; or one entry and no counters.
+#[tactic(auto, unfolding(crate::specs::Code::Read::agree_by))]
 fn agree(depends: bool, counters: Parts, entries: Parts) -> bool
     ensures { result ≡ agree_by depends counters entries }
 {

@@ -85,6 +85,7 @@ pub fn read(s: &[u8], at: &[u16; 64], command: u8, user: &mut [u8; 245]) -> Grad
 }
 
 // Nothing is read that the command has not. Each command answers by itself: where the answers meet, all would carry the fields of all.
+#[tactic(auto, using(crate::proofs::Whole::bodieds))]
 fn body_of(s: &[u8], at: &[u16; 64], command: u8, user: &mut [u8; 245], worst: u16) -> Held<Body>
     ensures { ◌≡◌ {A = Bodying} (bodying result user.new) (bodied_of s.now at.now command user.old worst) }
 {

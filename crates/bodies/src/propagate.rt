@@ -71,6 +71,7 @@ pub fn att_prp(s: &[u8], at: &[u16; 64], worst: u16) -> Held<Body>
     }
 }
 
+#[tactic(auto, using(crate::proofs::Commands::det_prp_is))]
 pub fn det_prp(s: &[u8], at: &[u16; 64], worst: u16) -> Held<Body>
     ensures { result ≡ plain_of s.now at.now 6 worst }
 {

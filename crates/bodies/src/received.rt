@@ -45,6 +45,7 @@ fn packet(s: &[u8], at: &[u16; 64], worst: u16) -> Held<record::Packet>
     }
 }
 
+#[tactic(auto, using(crate::proofs::Commands::det_is))]
 pub fn det(s: &[u8], at: &[u16; 64], worst: u16) -> Held<Body>
     ensures { result ≡ plain_of s.now at.now 3 worst }
 {
@@ -60,6 +61,7 @@ pub fn det(s: &[u8], at: &[u16; 64], worst: u16) -> Held<Body>
     }
 }
 
+#[tactic(auto, using(crate::proofs::Commands::det_rsp_is))]
 pub fn det_rsp(s: &[u8], at: &[u16; 64], worst: u16) -> Held<Body>
     ensures { result ≡ plain_of s.now at.now 4 worst }
 {
@@ -70,6 +72,7 @@ pub fn det_rsp(s: &[u8], at: &[u16; 64], worst: u16) -> Held<Body>
     }
 }
 
+#[tactic(auto, using(crate::proofs::Commands::ul_data_is))]
 pub fn ul_data(s: &[u8], at: &[u16; 64], user: &mut [u8; 245], worst: u16) -> Held<Body>
     ensures { ◌≡◌ {A = Bodying} (bodying result user.new) (bodied_of s.now at.now 7 user.old worst) }
 {
@@ -102,6 +105,7 @@ pub fn ul_data(s: &[u8], at: &[u16; 64], user: &mut [u8; 245], worst: u16) -> He
 }
 
 // responseExp true with dlOpen false is invalid, at responseExp's place, where dlOpen is valid.
+#[tactic(auto, unfolding(crate::specs::Code::Read::crossed_by))]
 fn crossed(expected: bool, known: bool, opened: bool) -> u16
     ensures { result ≡ crossed_by expected known opened }
 {
