@@ -4,7 +4,7 @@ use mathlib.Core.Path.{◌≡◌, refl, sym, ap, ◌∙◌}
 use mathlib.Core.Bool.{Bool, true, false, ◌&&◌, not}
 use mathlib.Core.List.{List, [], ◌++◌, append-nil}
 use mathlib.Core.Option.{Option, some, none}
-use Prim.Native.Nat.{ℕ, zero, suc, ◌+◌, ◌-◌, ◌%◌, ◌≤◌}
+use Prim.Native.Nat.{ℕ, zero, suc, ◌+◌, ◌-◌, ◌≤◌}
 use native.Mathlib.Nat.{zero-add, sub-zero}
 use native.Mathlib.Omega.{arith}
 use lib.Dec.{eqb, leb, lit≤}
@@ -121,22 +121,6 @@ text_bytes lo s (suc (suc p)) = go (judge (Kind.texts lo 16) (shallow_at s (suc 
     go (some v) e =
         ap sixteen_of (texts_put (shallow_at s (suc (suc p))) v lo 16 e (replicate 16 0))
         ∙ padded lo v (texts_are (shallow_at s (suc (suc p))) v lo 16 e)
-
--- each law in the shape of a need of the code
-module _ (state len n : ℕ) where
-  pub exact_not : (state ≡ 0 → ⊥) → state ≡ exactly state len n
-  unfolding exactly
-  exact_not h = sym (simp (ne_eqb state 0 h))
-
-  pub exact_good : state ≡ 0 → len ≡ n → 0 ≡ exactly state len n
-  unfolding exactly
-  exact_good h e = sym (simp (h, eq-eqb len n e))
-
-  pub exact_bad : state ≡ 0 → (len ≡ n → ⊥) → 1 ≡ exactly state len n
-  unfolding exactly
-  exact_bad h e = sym (simp (h, ne_eqb len n e))
-
-pub ruleset exacts = (exact_not, exact_good, exact_bad)
 
 there : (a : List ℕ) (at n x : ℕ) → n ≤ 8 → at + n ≤ length a → if_there a at n x ≡ x
 there a at n x h l = simp (le-leb n 8 h, le-leb (at + n) (length a) l)

@@ -1,6 +1,6 @@
 -- Each command's fields one after the other are its list: each law in the shape of a need of the code. Assumes nothing.
-use mathlib.Core.{Path.◌≡◌, Path.sym, Path.◌∙◌, List.List}
-use mathlib.Core.Bool.{Bool, true, false, ◌&&◌, not}
+use mathlib.Core.{Path.◌≡◌, List.List}
+use mathlib.Core.Bool.{true, false}
 use Prim.Native.Nat.{ℕ, suc, ◌+◌, max}
 use native.Mathlib.Omega.{arith}
 use lib.{IntN.ℤ, ListN.get_or}
@@ -13,7 +13,7 @@ use Rattle.field.specs.{Cell.Cell, Cell.here, Code.At.cell_at, Code.Into.read_in
 use Rattle.message.specs.{Fields.described, Fields.lists, Fields.list_in, Code.Cells.cells_at}
 use Rattle.message.specs.Record.{word_in, id_in, mark_in, maybe_word, maybe_id, maybe_real, maybe_mark, maybe_position}
 use Rattle.message.specs.declared.{MaybeWord.MaybeWord, MaybeId.MaybeId, MaybeReal.MaybeReal, MaybeMark.MaybeMark, MaybePosition.MaybePosition, MaybeVersion.MaybeVersion}
-use Rattle.message.specs.Reading.{graded, gravest, look_in, place_among}
+use Rattle.message.specs.Reading.{gravest, look_in, place_among}
 use Rattle.record.specs.declared.{Sixteen.Sixteen, Packet.Packet, Body.Body}
 use Rattle.record.specs.Record.{maybe_version, four_in, sixteen_in, body_in}
 use Rattle.bodies.specs.declared.{Held.Held, Profile.Profile}
@@ -139,13 +139,3 @@ module _ (s at : List ℕ) where
   pub det_prp_is : (w : ℕ) (a : Held MaybeWord) → a ≡ held_as maybe_word true 2 (on unsigned64 26) w → ◌≡◌ {A = Held Body} (record { worst = a.worst; value = Body.DetPrp a.value.value }) (plain_of s at 6 w)
   unfolding plain_of judged_as held_as gravest cells_at lists list_in look_in body_in slot_of place_in keys
   det_prp_is w a pa = rw pa
-
-pub crossed_so : (expected known opened : Bool) (r : ℕ) → expected && (known && not opened) ≡ true → r ≡ graded 1 13 → r ≡ crossed_by expected known opened
-unfolding crossed_by
-crossed_so expected known opened r t e = e ∙ sym (simp t)
-
-pub crossed_not : (expected known opened : Bool) → expected && (known && not opened) ≡ false → 0 ≡ crossed_by expected known opened
-unfolding crossed_by
-crossed_not expected known opened t = sym (simp t)
-
-pub ruleset commands = (described_is, con_is, con_rsp_is, status_is, packet_is, det_is, ul_data_is, det_rsp_is, att_prp_is, det_prp_is, crossed_so, crossed_not)

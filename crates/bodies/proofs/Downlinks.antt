@@ -1,7 +1,7 @@
 -- dlDataQue's fields one after the other are its list, and its rule on how its cells stand is the rule on the cells: each law in the shape of a need of the
 -- code. Assumes nothing.
-use mathlib.Core.{Path.◌≡◌, Path.refl, Path.sym, Path.ap, Path.◌∙◌, List.List}
-use mathlib.Core.Bool.{Bool, true, false, ◌&&◌, ◌||◌, not, and-false}
+use mathlib.Core.{Path.◌≡◌, Path.ap, Path.◌∙◌, List.List}
+use mathlib.Core.Bool.{Bool, true, false, ◌&&◌, not, and-false}
 use Prim.Native.Nat.{ℕ, max}
 use native.Mathlib.Omega.{arith}
 use lib.{Dec.eqb, Dec.leb, ListN.get_or}
@@ -72,42 +72,3 @@ module _ (s at : List ℕ) where
       (ap (λ (m : Held MaybeMark). m.value) pc)
       (ap (λ (m : Held Parts). m.value.state) pd, ap (λ (m : Held Parts). m.value.count) pd) (ap (λ (m : Held Parts). m.value.state) pe, ap (λ (m : Held Parts). m.value.count) pe) in
       rw (py, px ∙ rule, ph, pg, pf, pe, pd, pc, pb, pa, other_rule (mark_in (on Kind.flags 46)) (rule_on (on Kind.flags 50) (on (Kind.counters 16) 29) (on (Kind.pieces 16 245 800) 43)))
-
--- the counts agree
-module _ (depends : Bool) (cs es : Parts) where
-  pub agree_so : depends ≡ true → eqb cs.state 0 && (eqb cs.count es.count && leb 1 es.count) ≡ agree_by depends cs es
-  unfolding agree_by
-  agree_so t = sym (rw t)
-
-  pub agree_alone : depends ≡ false → not (eqb cs.state 0) && eqb es.count 1 ≡ agree_by depends cs es
-  unfolding agree_by
-  agree_alone t = sym (rw t)
-
--- the rule is judged, and then what it says
-joined : (h k e n : Bool) → h && (k && (e && n)) ≡ (h && (k && e)) && n
-joined true true e n = refl
-joined true false e n = refl
-joined false k e n = refl
-
-module _ (m : MaybeMark) (cs es : Parts) where
-  abbrev judged_by : Bool
-  judged_by = m.here && ((eqb cs.state 0 || eqb cs.state 2) && eqb es.state 0)
-
-  miscounted_by_lem : (j a : Bool) → judged_by ≡ j → a ≡ agree_by m.value cs es → miscounted_by m cs es ≡ either (j && not a) (λ _. graded 1 5) (λ _. 0)
-  unfolding miscounted_by
-  miscounted_by_lem j a e f =
-      ap (λ (b : Bool). either b (λ _. graded 1 5) (λ _. 0))
-      (joined m.here (eqb cs.state 0 || eqb cs.state 2) (eqb es.state 0) (not (agree_by m.value cs es)) ∙ ap (λ (x : Bool). x && not (agree_by m.value cs es)) e
-      ∙ ap (λ (x : Bool). j && not x) (sym f))
-
-  pub miscounted_not : m.here && ((eqb cs.state 0 || eqb cs.state 2) && eqb es.state 0) ≡ false → 0 ≡ miscounted_by m cs es
-  miscounted_not e = sym (miscounted_by_lem false (agree_by m.value cs es) e refl)
-
-  module _ (e : m.here && ((eqb cs.state 0 || eqb cs.state 2) && eqb es.state 0) ≡ true) (a : Bool) (f : a ≡ agree_by m.value cs es) where
-    pub miscounted_agrees : a ≡ true → 0 ≡ miscounted_by m cs es
-    miscounted_agrees t = sym (miscounted_by_lem true true e (sym t ∙ f))
-
-    pub miscounted_so : (r : ℕ) → a ≡ false → r ≡ graded 1 5 → r ≡ miscounted_by m cs es
-    miscounted_so r t q = q ∙ sym (miscounted_by_lem true false e (sym t ∙ f))
-
-pub ruleset downlinks = (flags_is, downlink_is, agree_so, agree_alone, miscounted_not, miscounted_agrees, miscounted_so)

@@ -8,14 +8,13 @@ use mir.Syntax.{w32, w64}
 use mir.Val.{SFits, of_z, to_z}
 use mir.ValLaws.{to_z-of_z}
 use Rattle.octets.specs.Signed.{signed_of}
-use Rattle.field.specs.declared.{Judged.Judged, Located.Located, Released.Released}
-use Rattle.field.specs.Kind.{Kind, signed32, user_bytes, profile_text, status_text}
+use Rattle.field.specs.declared.{Judged.Judged}
+use Rattle.field.specs.Kind.{Kind, signed32, profile_text, status_text}
 use Rattle.field.specs.{Cell.Cell, Cell.here, Code.At.cell_at}
-use Rattle.field.specs.Code.Told.{cell_state, told_of, located_of, released_of}
-use Rattle.message.specs.Record.{word_in, id_in, mark_in, maybe_word, maybe_id, maybe_real, maybe_mark, maybe_position}
+use Rattle.field.specs.Code.Told.{cell_state, told_of}
+use Rattle.message.specs.Record.{id_in, mark_in, maybe_id}
 use Rattle.message.specs.Reading.{cell_fault, graded}
-use Rattle.record.specs.Record.{maybe_version}
-use Rattle.bodies.specs.Code.Held.{judged_as, held_as, parts_in}
+use Rattle.bodies.specs.Code.Held.{judged_as, held_as}
 use Rattle.bodies.proofs.Worth.{Most, worth, cell_most, here_state, id_word, code_word, mark_word}
 
 -- a fault

@@ -8,6 +8,7 @@ use message::listed;
 use names::slots;
 use record::Body;
 
+#[tactic(auto, using(crate::proofs::Commands::con_is))]
 pub fn con(s: &[u8], at: &[u16; 64], worst: u16) -> Held<Body>
     ensures { result ≡ plain_of s.now at.now 0 worst }
 {
@@ -39,21 +40,16 @@ pub fn con(s: &[u8], at: &[u16; 64], worst: u16) -> Held<Body>
         listed::SN_SC_OP_ID,
         f.worst,
     );
-    let release = a.value;
-    let position = d.value;
-    let uuid = e.value;
-    let station = f.value;
-    let centre = g.value;
     Held {
         worst: described(s, at, listed::CON_VENDOR, g.worst),
         value: Body::Con(record::Con {
-            version: release,
+            version: a.value,
             bs_eui: b.value.value,
             bidi: c.value.value,
-            geo_location: position,
-            sn_bs_uuid: uuid,
-            sn_bs_op_id: station,
-            sn_sc_op_id: centre,
+            geo_location: d.value,
+            sn_bs_uuid: e.value,
+            sn_bs_op_id: f.value,
+            sn_sc_op_id: g.value,
         }),
     }
 }
@@ -72,15 +68,13 @@ pub fn con_rsp(s: &[u8], at: &[u16; 64], worst: u16) -> Held<Body>
         b.worst,
     );
     let d = part::sixteen(s, at[slots::SN_SC_UUID], listed::SN_SC_UUID, c.worst);
-    let release = a.value;
-    let uuid = d.value;
     Held {
         worst: described(s, at, listed::CON_RSP_VENDOR, d.worst),
         value: Body::ConRsp(record::ConRsp {
-            version: release,
+            version: a.value,
             sc_eui: b.value.value,
             sn_resume: c.value.value,
-            sn_sc_uuid: uuid,
+            sn_sc_uuid: d.value,
         }),
     }
 }

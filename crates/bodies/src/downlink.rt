@@ -7,6 +7,7 @@ use message::{MaybeMark, listed};
 use names::slots;
 use record::Body;
 
+#[tactic(auto, using(crate::proofs::Downlinks::downlink_is))]
 pub fn dl_data_que(s: &[u8], at: &[u16; 64], worst: u16) -> Held<Body>
     ensures { result ≡ downlink_of s.now at.now worst }
 {
@@ -92,13 +93,11 @@ fn miscounted(depends: MaybeMark, counters: Parts, entries: Parts) -> u16
 {
     let known = (counters.state == part::GOOD) | (counters.state == part::MISSING);
     let judged = depends.here & (known & (entries.state == part::GOOD));
-    if judged {
-        if agree(depends.value, counters, entries) {
-            return 0;
-        }
-        return part::grade_of(part::INVALID, listed::DOWNLINK_PACKET_CNT);
+    if judged & !agree(depends.value, counters, entries) {
+        part::grade_of(part::INVALID, listed::DOWNLINK_PACKET_CNT)
+    } else {
+        0
     }
-    0
 }
 
 // As many entries as counters, at least one; or one entry and no counters.
@@ -108,7 +107,8 @@ fn agree(depends: bool, counters: Parts, entries: Parts) -> bool
 {
     let given = counters.state == part::GOOD;
     if depends {
-        return given & ((counters.count == entries.count) & (1 <= entries.count));
+        given & ((counters.count == entries.count) & (1 <= entries.count))
+    } else {
+        !given & (entries.count == 1)
     }
-    !given & (entries.count == 1)
 }

@@ -74,12 +74,11 @@ pub fn read(s: &[u8], at: &[u16; 64], command: u8, user: &mut [u8; 245]) -> Grad
         named,
     );
     let b = body_of(s, at, command, user, op_id.worst);
-    let body = b.value;
     Graded {
         worst: b.worst,
         message: Message {
             op_id: op_id.value.value,
-            body: body,
+            body: b.value,
         },
     }
 }

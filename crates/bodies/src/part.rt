@@ -65,7 +65,7 @@ pub fn grade_of(fault: u8, i: u8) -> u16
     if fault == GOOD {
         0
     } else {
-        (fault as u16) * RANK + ((LAST - i) as u16)
+        u16::from(fault) * RANK + u16::from(LAST - i)
     }
 }
 
@@ -329,14 +329,15 @@ pub fn table(s: &[u8], p: u16, i: u8, worst: u16) -> u16
 }
 
 // An array of exactly n bytes, by how one of at most n stands.
-#[tactic(auto, using(crate::proofs::Bytes::exacts))]
+#[tactic(auto, unfolding(crate::specs::Code::Held::exactly))]
 fn exact(state: u8, len: u64, n: u64) -> u8
     ensures { result ≡ exactly state len n }
 {
-    if state != GOOD {
-        return state;
+    if (state == GOOD) & (len != n) {
+        INVALID
+    } else {
+        state
     }
-    if len == n { GOOD } else { INVALID }
 }
 
 // Sixteen bytes, and four; zeros where there are not as many.
@@ -390,12 +391,13 @@ fn halves(a: &[u8; 16], whole: bool) -> Sixteen
     ensures { result ≡ sixteen_if whole a.now }
 {
     if whole {
-        return Sixteen {
+        Sixteen {
             high: octets::big_at(a, 0, 8),
             low: octets::big_at(a, 8, 8),
-        };
+        }
+    } else {
+        Sixteen { high: 0, low: 0 }
     }
-    Sixteen { high: 0, low: 0 }
 }
 
 #[tactic(auto, using(crate::proofs::Bytes::numbers))]
@@ -403,7 +405,8 @@ fn quarter(a: &[u8; 4], whole: bool) -> u32
     ensures { result ≡ four_if whole a.now }
 {
     if whole {
-        return octets::big_at(a, 0, 4) as u32;
+        octets::big_at(a, 0, 4) as u32
+    } else {
+        0
     }
-    0
 }

@@ -7,6 +7,7 @@ use message::listed;
 use names::slots;
 use record::Body;
 
+#[tactic(auto, using(crate::proofs::Commands::att_prp_is))]
 pub fn att_prp(s: &[u8], at: &[u16; 64], worst: u16) -> Held<Body>
     ensures { result ≡ plain_of s.now at.now 5 worst }
 {
@@ -54,13 +55,12 @@ pub fn att_prp(s: &[u8], at: &[u16; 64], worst: u16) -> Held<Body>
         listed::LONG_BLK_DIST,
         h.worst,
     );
-    let key = c.value;
     Held {
         worst: i.worst,
         value: Body::AttPrp(record::AttPrp {
             ep_eui: a.value.value,
             bidi: b.value.value,
-            nwk_sn_key: key,
+            nwk_sn_key: c.value,
             sh_addr: d.value,
             last_packet_cnt: e.value,
             dual_chan: f.value.value,

@@ -7,6 +7,7 @@ use message::listed;
 use names::slots;
 use record::Body;
 
+#[tactic(auto, using(crate::proofs::Commands::packet_is))]
 fn packet(s: &[u8], at: &[u16; 64], worst: u16) -> Held<record::Packet>
     ensures { result ≡ packet_as s.now at.now worst }
 {
@@ -24,14 +25,13 @@ fn packet(s: &[u8], at: &[u16; 64], worst: u16) -> Held<record::Packet>
     let f = part::real(s, at[slots::RSSI], part::MUST, listed::RSSI, e.worst);
     let g = part::real(s, at[slots::EQ_SNR], part::MAY, listed::EQ_SNR, f.worst);
     let h = part::profile(s, at[slots::PROFILE], listed::PROFILE, g.worst);
-    let duration = c.value;
     let profile = h.value;
     Held {
         worst: h.worst,
         value: record::Packet {
             ep_eui: a.value.value,
             rx_time: b.value.value,
-            rx_duration: duration,
+            rx_duration: c.value,
             packet_cnt: d.value,
             signal: message::Signal {
                 snr: e.value.value,
@@ -51,11 +51,10 @@ pub fn det(s: &[u8], at: &[u16; 64], worst: u16) -> Held<Body>
 {
     let p = packet(s, at, worst);
     let sign = part::four(s, at[slots::SIGN], listed::DET_SIGN, p.worst);
-    let heard = p.value;
     Held {
         worst: part::table(s, at[slots::SUBPACKETS], listed::DET_SUBPACKETS, sign.worst),
         value: Body::Det(record::Det {
-            packet: heard,
+            packet: p.value,
             sign: sign.value,
         }),
     }
@@ -90,11 +89,10 @@ pub fn ul_data(s: &[u8], at: &[u16; 64], user: &mut [u8; 245], worst: u16) -> He
     let e = part::mark(s, at[slots::DL_ACK], part::MUST, listed::DL_ACK, d.worst);
     let f = part::unkept(s, at[slots::MODE], part::MAY, listed::MODE, e.worst);
     let g = part::table(s, at[slots::SUBPACKETS], listed::UL_DATA_SUBPACKETS, f);
-    let heard = p.value;
     Held {
         worst: g.max(crossed(d.value.value, c.value.here, c.value.value)),
         value: Body::UlData(record::UlData {
-            packet: heard,
+            packet: p.value,
             user_len: a.value,
             format: b.value,
             dl_open: c.value.value,
@@ -110,7 +108,8 @@ fn crossed(expected: bool, known: bool, opened: bool) -> u16
     ensures { result ≡ crossed_by expected known opened }
 {
     if expected & (known & !opened) {
-        return part::grade_of(part::INVALID, listed::RESPONSE_EXP);
+        part::grade_of(part::INVALID, listed::RESPONSE_EXP)
+    } else {
+        0
     }
-    0
 }

@@ -30,11 +30,6 @@ pub fn status_rsp(s: &[u8], at: &[u16; 64], worst: u16) -> Held<Body>
     let g = part::real(s, at[slots::TEMP], part::MAY, listed::TEMP, f.worst);
     let h = part::real(s, at[slots::CPU_LOAD], part::MAY, listed::CPU_LOAD, g.worst);
     let i = part::real(s, at[slots::MEM_LOAD], part::MAY, listed::MEM_LOAD, h.worst);
-    let position = e.value;
-    let uptime = f.value;
-    let temp = g.value;
-    let cpu = h.value;
-    let mem = i.value;
     Held {
         worst: part::table(s, at[slots::CONFIG], listed::CONFIG, i.worst),
         value: Body::StatusRsp(record::StatusRsp {
@@ -42,11 +37,11 @@ pub fn status_rsp(s: &[u8], at: &[u16; 64], worst: u16) -> Held<Body>
             message_len: b.value,
             time: c.value.value,
             duty_cycle: d.value.value,
-            geo_location: position,
-            uptime: uptime,
-            temp: temp,
-            cpu_load: cpu,
-            mem_load: mem,
+            geo_location: e.value,
+            uptime: f.value,
+            temp: g.value,
+            cpu_load: h.value,
+            mem_load: i.value,
         }),
     }
 }
