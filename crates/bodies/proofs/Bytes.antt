@@ -4,7 +4,7 @@ use mathlib.Core.Path.{◌≡◌, refl, sym, ap, ◌∙◌}
 use mathlib.Core.Bool.{Bool, true, false, ◌&&◌, not}
 use mathlib.Core.List.{List, [], ◌++◌, append-nil}
 use mathlib.Core.Option.{Option, some, none}
-use Prim.Native.Nat.{ℕ, zero, suc, ◌+◌, ◌-◌, ◌%◌, ◌≤◌}
+use Prim.Native.Nat.{ℕ, zero, suc, ◌+◌, ◌-◌, ◌≤◌}
 use native.Mathlib.Nat.{zero-add, sub-zero}
 use native.Mathlib.Omega.{arith}
 use lib.Dec.{eqb, leb, lit≤}
@@ -20,11 +20,10 @@ use Rattle.field.specs.{Code.Into.read_into}
 use Rattle.field.proofs.Intos.{into_good}
 use Rattle.message.specs.Record.{word_in, string_of}
 use Rattle.record.specs.declared.Sixteen.{Sixteen}
-use Rattle.record.specs.Record.{bytes_in, four_of, sixteen_of, sixteen_in}
+use Rattle.record.specs.Record.{bytes_in, four_of, four_in, sixteen_of, sixteen_in}
 use Rattle.record.proofs.Packed.{sixteen_padded}
-use Rattle.bodies.specs.Code.Held.{judged_as, exactly, four_if, sixteen_if, four_as, sixteen_as, profile_as}
+use Rattle.bodies.specs.Code.Held.{judged_as, held_as, profile_in, exactly, four_if, sixteen_if}
 use Rattle.bodies.proofs.Values.{IsString, arrays_are, texts_are, arrays_more, texts_put}
-use Rattle.bodies.proofs.Worth.{Most, worth, low_word}
 
 -- how an array of at most n bytes stands says how one of exactly n does
 exact_sized : (n : ℕ) (d : List ℕ) → exactly (cell_state (judged (string_sized 0 n d))) (word_in (judged (string_sized 0 n d))) n ≡ cell_state (judged (string_sized n n d))
@@ -123,22 +122,6 @@ text_bytes lo s (suc (suc p)) = go (judge (Kind.texts lo 16) (shallow_at s (suc 
         ap sixteen_of (texts_put (shallow_at s (suc (suc p))) v lo 16 e (replicate 16 0))
         ∙ padded lo v (texts_are (shallow_at s (suc (suc p))) v lo 16 e)
 
--- each law in the shape of a need of the code
-module _ (state len n : ℕ) where
-  pub exact_not : (state ≡ 0 → ⊥) → state ≡ exactly state len n
-  unfolding exactly
-  exact_not h = sym (simp (ne_eqb state 0 h))
-
-  pub exact_good : state ≡ 0 → len ≡ n → 0 ≡ exactly state len n
-  unfolding exactly
-  exact_good h e = sym (simp (h, eq-eqb len n e))
-
-  pub exact_bad : state ≡ 0 → (len ≡ n → ⊥) → 1 ≡ exactly state len n
-  unfolding exactly
-  exact_bad h e = sym (simp (h, ne_eqb len n e))
-
-pub ruleset exacts = (exact_not, exact_good, exact_bad)
-
 there : (a : List ℕ) (at n x : ℕ) → n ≤ 8 → at + n ≤ length a → if_there a at n x ≡ x
 there a at n x h l = simp (le-leb n 8 h, le-leb (at + n) (length a) l)
 
@@ -178,16 +161,16 @@ module _ (s a : List ℕ) (p i w r : ℕ) (j : Judged) (state : ℕ) where
 
   module _ (g : (d : Cell) → state ≡ cell_state d → r ≡ judged_as true i d w) where
     pub sixteen_is : j ≡ told_of (cell_at (Kind.arrays 0 16) s p) → state ≡ exactly j.state j.word 16 → a ≡ read_into s p (replicate 16 0)
-        → (v : Sixteen) → v ≡ sixteen_if (eqb state 0) a → record { worst = r; value = v } ≡ sixteen_as i (cell_at bytes16 s p) w
-    unfolding sixteen_as sixteen_if
+        → (v : Sixteen) → v ≡ sixteen_if (eqb state 0) a → record { worst = r; value = v } ≡ held_as sixteen_in true i (cell_at bytes16 s p) w
+    unfolding held_as sixteen_if
     sixteen_is e q b v h =
         let x = g (cell_at bytes16 s p) (state_is 16 e q) in
         let y = made_is 16 e q sixteen_of v b h in
         cc
 
     pub four_is : j ≡ told_of (cell_at (Kind.arrays 0 4) s p) → state ≡ exactly j.state j.word 4 → a ≡ read_into s p (replicate 4 0)
-        → (v : ℕ) → v ≡ four_if (eqb state 0) a → record { worst = r; value = v } ≡ four_as i (cell_at bytes4 s p) w
-    unfolding four_as four_if
+        → (v : ℕ) → v ≡ four_if (eqb state 0) a → record { worst = r; value = v } ≡ held_as four_in true i (cell_at bytes4 s p) w
+    unfolding held_as four_if
     four_is e q b v h =
         let x = g (cell_at bytes4 s p) (state_is 4 e q) in
         let y = made_is 4 e q four_of v b h in
@@ -195,12 +178,12 @@ module _ (s a : List ℕ) (p i w r : ℕ) (j : Judged) (state : ℕ) where
 
 pub profile_is : (s a : List ℕ) (p i w r : ℕ) (j : Judged) → ((d : Cell) → j.state ≡ cell_state d → r ≡ judged_as false i d w) → j ≡ told_of (cell_at profile_text s p)
     → a ≡ string_filled (judge (Kind.texts 0 16) (shallow_at s p)) (replicate 16 0)
-    → (v : Sixteen) → v ≡ sixteen_if (eqb j.state 0) a → record { worst = r; len = j.word % 256; value = v } ≡ profile_as i (cell_at profile_text s p) w
-unfolding profile_as sixteen_if
+    → (v : Sixteen) → v ≡ sixteen_if (eqb j.state 0) a → record { worst = r; value = record { len = j.word; text = v } } ≡ held_as profile_in false i (cell_at profile_text s p) w
+unfolding held_as sixteen_if
 profile_is s a p i w r j g e b v h =
     let c = cell_at profile_text s p in
     let x : r ≡ judged_as false i c w = g c (ap (λ (y : Judged). y.state) e) in
-    let l : j.word % 256 ≡ word_in c = ap (λ (y : Judged). y.word % 256) e ∙ low_word profile_text 8 16 (Most.text 1 16) (omega arith) c (worth profile_text s p) in
+    let l : j.word ≡ word_in c = ap (λ (y : Judged). y.word) e in
     let z : v ≡ sixteen_in c =
     h ∙ (ap (λ (y : Judged). either (eqb y.state 0) (λ _. sixteen_of a) (λ _. sixteen_of [])) e ∙ (ap (if_good sixteen_of c) b ∙ text_bytes 1 s p)) in
     cc

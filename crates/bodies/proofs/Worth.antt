@@ -1,9 +1,8 @@
--- What a cell holds, by its kind: a number below 2 ^ b is its lowest b bits, a signed one is the bits of its width, a mark is 1. A cell with no value holds zeros.
+-- What a cell holds, by its kind: a word is at most so much, a signed one is the bits of its width, a mark is 1. A cell with no value holds zeros.
 -- Assumes nothing.
 use mathlib.Core.Path.{◌≡◌, refl, ap, ◌∙◌}
 use mathlib.Core.{Bool.true, Bool.false, Bool.◌||◌, List.List, Option.Option, Option.some, Option.none}
 use Prim.Native.Nat.{ℕ, zero, suc, ◌%◌, ◌^◌, ◌≤◌, ◌<◌}
-use native.Mathlib.Nat.{mod-eq_of_lt}
 use native.Mathlib.Omega.{arith}
 use lib.{Dec.eqb, IntN.ℤ, IntN.pos, IntN.negsuc, Signed.mag}
 use borrow.Author.Tests.{leb-true}
@@ -72,15 +71,11 @@ word_most _ _ (Most.counters many) e v j = parts_most many v (counters_are e v m
 word_most _ _ (Most.pieces many most all) e v j = parts_most many v (pieces_are e v many most all j)
 word_most _ _ (Most.text lo hi) e v j = string_most lo hi v (texts_are e v lo hi j)
 
-cell_most : (k : Kind) (m : ℕ) → Most k m → (c : Cell) → Worth k c → word_in c ≤ m
+pub cell_most : (k : Kind) (m : ℕ) → Most k m → (c : Cell) → Worth k c → word_in c ≤ m
 cell_most k m l _ missing = omega arith
 cell_most k m l _ double = omega arith
 cell_most k m l _ bad = omega arith
 cell_most k m l _ (good v e j) = word_most k m l e v j
-
--- so many bits hold the word
-pub low_word : (k : Kind) (b m : ℕ) → Most k m → m < 2 ^ b → (c : Cell) → Worth k c → word_in c % 2 ^ b ≡ word_in c
-low_word k b m l h c w = mod-eq_of_lt (omega (arith, cell_most k m l c w))
 
 -- a signed number of 64 bits, and of 32 by its lowest
 fits_in : (half lo hi : ℕ) → lo ≤ half → hi < half → (z : ℤ) → in_range lo hi z ≡ true → mag z < half

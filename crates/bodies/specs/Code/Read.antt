@@ -9,7 +9,8 @@ use Rattle.message.specs.{Fields.Field, Fields.received, Fields.downlink_fields,
 use Rattle.message.specs.Reading.{graded, gravest, look_in, crossed}
 use Rattle.message.specs.declared.MaybeMark.{MaybeMark}
 use Rattle.record.specs.Record.{packet_of, body_of, message_of}
-use Rattle.bodies.specs.declared.{HeldParts.HeldParts, HeldFlags.HeldFlags, HeldPacket.HeldPacket, Bodied.Bodied, Graded.Graded}
+use Rattle.record.specs.declared.{Body.Body, Packet.Packet}
+use Rattle.bodies.specs.declared.{Held.Held, Parts.Parts, Marks.Marks, Graded.Graded}
 
 -- what is answered, and the room afterwards
 pub record Read : Type 0 where
@@ -37,34 +38,36 @@ module _ (s at : List ℕ) where
   abbrev pub gravest_from : ℕ → ℕ → ℕ
   gravest_from c w = gravest w 2 (drop 2 (fields_of c)) (drop 2 (cells_at (fields_of c) s at))
 
-  unfoldable pub plain_of : ℕ → ℕ → Bodied
-  plain_of c w = record { worst = gravest_from c w; body = body_of c (look_for c) }
+  unfoldable pub plain_of : ℕ → ℕ → Held Body
+  plain_of c w = record { worst = gravest_from c w; value = body_of c (look_for c) }
 
-  unfoldable pub packet_as : ℕ → HeldPacket
+  unfoldable pub packet_as : ℕ → Held Packet
   packet_as w = record { worst = gravest w 2 (received []) (cells_at (received []) s at); value = packet_of (look_for 7) }
 
   -- dlDataQue's optional marks, and the whole with its rule
   abbrev pub flag_fields : List Field
   flag_fields = drop 9 downlink_fields
 
-  unfoldable pub flags_as : ℕ → HeldFlags
+  unfoldable pub flags_as : ℕ → Held Marks
   flags_as w = record {
     worst = gravest w 9 flag_fields (cells_at flag_fields s at);
-    response_exp = maybe_mark (look_for downlink (bytes "responseExp"));
-    response_prio = maybe_mark (look_for downlink (bytes "responsePrio"));
-    dl_wind_req = maybe_mark (look_for downlink (bytes "dlWindReq"));
-    exp_only = maybe_mark (look_for downlink (bytes "expOnly"));
+    value = record {
+      response_exp = maybe_mark (look_for downlink (bytes "responseExp"));
+      response_prio = maybe_mark (look_for downlink (bytes "responsePrio"));
+      dl_wind_req = maybe_mark (look_for downlink (bytes "dlWindReq"));
+      exp_only = maybe_mark (look_for downlink (bytes "expOnly"));
+    };
   }
 
-  unfoldable pub downlink_of : ℕ → Bodied
-  downlink_of w = record { worst = max (gravest_from downlink w) (crossed (fields_of downlink) (look_for downlink)); body = body_of downlink (look_for downlink) }
+  unfoldable pub downlink_of : ℕ → Held Body
+  downlink_of w = record { worst = max (gravest_from downlink w) (crossed (fields_of downlink) (look_for downlink)); value = body_of downlink (look_for downlink) }
 
 -- for the private readers: with the room
 pub record Bodying : Type 0 where
-  pub bodied : Bodied
+  pub bodied : Held Body
   pub user : List ℕ
 
-abbrev pub bodying : Bodied → List ℕ → Bodying
+abbrev pub bodying : Held Body → List ℕ → Bodying
 bodying b user = record { bodied = b; user = user }
 
 -- responseExp without dlOpen
@@ -72,14 +75,14 @@ unfoldable pub crossed_by : Bool → Bool → Bool → ℕ
 crossed_by expected known opened = either (expected && (known && not opened)) (λ _. graded 1 13) (λ _. 0)
 
 -- cntDepend against its counts
-unfoldable pub agree_by : Bool → HeldParts → HeldParts → Bool
+unfoldable pub agree_by : Bool → Parts → Parts → Bool
 agree_by depends cs es =
     either depends (λ _. eqb cs.state 0 && (eqb cs.count es.count && leb 1 es.count)) (λ _. not (eqb cs.state 0) && eqb es.count 1)
 
-unfoldable pub miscounted_by : MaybeMark → HeldParts → HeldParts → ℕ
+unfoldable pub miscounted_by : MaybeMark → Parts → Parts → ℕ
 miscounted_by depends cs es =
     either (depends.here && ((eqb cs.state 0 || eqb cs.state 2) && (eqb es.state 0 && not (agree_by depends.value cs es)))) (λ _. graded 1 5) (λ _. 0)
 
 unfoldable pub bodied_of : List ℕ → List ℕ → ℕ → List ℕ → ℕ → Bodying
 bodied_of s at c user w =
-    bodying (record { worst = max (gravest_from s at c w) (crossed (fields_of c) (look_for s at c)); body = (plain_of s at c w).body }) (user_after s at c user)
+    bodying (record { worst = max (gravest_from s at c w) (crossed (fields_of c) (look_for s at c)); value = (plain_of s at c w).value }) (user_after s at c user)
