@@ -1,9 +1,10 @@
 // dlDataQue. Its counters and data entries stay where they are.
-ghost use Rattle.std.specs.Prelude.{◌≡◌};
-ghost use Rattle.bodies.specs.Code.Read.{flags_as, downlink_of, miscounted_by, agree_by};
+ghost use Rattle.std.specs.Prelude.{◌≡◌, is_none};
+ghost use Rattle.bodies.specs.Code.Read.{flags_as, downlink_of, miscounted_by, agree_by, is_valid_by};
 
 use crate::{Held, Marks, Parts, part};
-use message::{MaybeMark, listed};
+use field::Flaw;
+use message::{Maybe, listed};
 use names::slots;
 use record::Body;
 
@@ -88,13 +89,12 @@ fn flags(s: &[u8], at: &[u16; 64], worst: u16) -> Held<Marks>
 
 // cntDepend against its counts is invalid, at packetCnt's place, where all three are valid.
 #[tactic(auto, unfolding(crate::specs::Code::Read::miscounted_by))]
-fn miscounted(depends: MaybeMark, counters: Parts, entries: Parts) -> u16
+fn miscounted(depends: Maybe<bool>, counters: Parts, entries: Parts) -> u16
     ensures { result ≡ miscounted_by depends counters entries }
 {
-    let known = (counters.state == part::GOOD) | (counters.state == part::MISSING);
-    let judged = depends.here & (known & (entries.state == part::GOOD));
+    let judged = depends.here & (is_valid(counters.flaw) & is_good(entries.flaw));
     if judged & !agree(depends.value, counters, entries) {
-        part::grade_of(part::INVALID, listed::DOWNLINK_PACKET_CNT)
+        part::grade_of(Flaw::Invalid, listed::DOWNLINK_PACKET_CNT)
     } else {
         0
     }
@@ -105,10 +105,23 @@ fn miscounted(depends: MaybeMark, counters: Parts, entries: Parts) -> u16
 fn agree(depends: bool, counters: Parts, entries: Parts) -> bool
     ensures { result ≡ agree_by depends counters entries }
 {
-    let given = counters.state == part::GOOD;
+    let given = is_good(counters.flaw);
     if depends {
         given & ((counters.count == entries.count) & (1 <= entries.count))
     } else {
         !given & (entries.count == 1)
     }
+}
+
+fn is_good(flaw: Option<Flaw>) -> bool
+    ensures { result ≡ is_none flaw }
+{
+    matches!(flaw, None)
+}
+
+// There, or absent.
+fn is_valid(flaw: Option<Flaw>) -> bool
+    ensures { result ≡ is_valid_by flaw }
+{
+    matches!(flaw, None | Some(Flaw::Missing))
 }

@@ -3,6 +3,7 @@ ghost use Rattle.std.specs.Prelude.{◌≡◌};
 ghost use Rattle.bodies.specs.Code.Read.{packet_as, plain_of, Bodying, bodying, crossed_by, bodied_of};
 
 use crate::{Held, part};
+use field::Flaw;
 use message::listed;
 use names::slots;
 use record::Body;
@@ -36,8 +37,7 @@ fn packet(s: &[u8], at: &[u16; 64], worst: u16) -> Held<record::Packet>
             signal: message::Signal {
                 snr: e.value.value,
                 rssi: f.value.value,
-                eq_snr: g.value.value,
-                has_eq_snr: g.value.here,
+                eq_snr: g.value,
             },
             profile_len: profile.len,
             profile: profile.text,
@@ -108,7 +108,7 @@ fn crossed(expected: bool, known: bool, opened: bool) -> u16
     ensures { result ≡ crossed_by expected known opened }
 {
     if expected & (known & !opened) {
-        part::grade_of(part::INVALID, listed::RESPONSE_EXP)
+        part::grade_of(Flaw::Invalid, listed::RESPONSE_EXP)
     } else {
         0
     }

@@ -4,7 +4,7 @@ use mathlib.Core.List.{List}
 use mathlib.Core.Option as maybe
 use Prim.Native.Nat.{ℕ, zero, suc}
 use native.Mathlib.Omega.{arith}
-use Rattle.std.specs.Prelude.{Option, Some, None, Result, Ok, Err, ok_or}
+use Rattle.std.specs.Prelude.{Option, Result, Ok, Err, ok_or}
 use Rattle.field.specs.declared.Flaw.{Flaw, TheVariants.Invalid, TheVariants.Missing, TheVariants.Twice}
 use Rattle.field.specs.{Kind.Kind, Kind.Value, Judge.judge, Cell.Cell, Cell.judged, Cell.value_in, Cell.word_of}
 use Rattle.field.specs.{Code.Told.told_of, Code.At.seen_at, Code.At.cell_at, Code.Read.tell, Code.Read.read_at, Code.Read.place_of}

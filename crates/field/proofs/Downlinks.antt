@@ -16,9 +16,9 @@ use Rattle.std.specs.Prelude.{Result, Ok, Err}
 use Rattle.field.specs.declared.{Extent.Extent, Flaw.Flaw}
 use Rattle.field.specs.{Kind.Kind, Kind.Value, Cell.judged, Cell.value_in, Cell.word_of, Cell.views_of}
 use Rattle.field.specs.Judge.{on_some, parts_of, naturals_in, pieces_in, counts_sized, strings_sized, judge}
-use Rattle.field.specs.{Code.Told.told_of, Code.At.leaves_from, Code.At.shallow_at, Code.At.nested_at, Code.At.seen_at, Code.At.cell_at, Code.Extent.parts_in, Code.Extent.Lists}
+use Rattle.field.specs.{Code.Told.told_of, Code.At.shallow_at, Code.At.nested_at, Code.At.seen_at, Code.At.cell_at, Code.Extent.parts_in, Code.Extent.Lists}
 use Rattle.field.specs.Code.{Item.is_some, Item.naturals_from, Item.pieces_from, Lent.list_in, Lent.counters_at, Lent.entries_at, Lent.AreCounters, Lent.AreEntries, Lent.entries_put}
-use Rattle.field.proofs.{Cells.told_word, Cells.told_nothing, Nested.nested_in, Arrays.length_naturals, Arrays.by_parts, Naturals.naturals_zero, Entries.length_pieces, Entries.judged_by}
+use Rattle.field.proofs.{Cells.told_word, Cells.told_nothing, Arrays.length_naturals, Arrays.by_parts, Naturals.naturals_zero, Entries.length_pieces, Entries.judged_by}
 
 -- what a cell of no value holds
 no_counts : (v : Value) → word_of v ≤ 0 → (views_of v).counts ≡ []

@@ -16,9 +16,9 @@ use Rattle.octets.proofs.Writing.{put_none, put_one, put_then, length_put}
 use Rattle.element.specs.{Form.span_of, Meaning.Elements, Meaning.Elements.no_more, Meaning.Elements.more, Code.At.leaf_at}
 use Rattle.number.specs.Number.{number_of}
 use Rattle.std.specs.Prelude.{Option as Answer, Some, None}
-use Rattle.std.specs.Prelude.{Result, Err, Ok, ok_or}
+use Rattle.std.specs.Prelude.{Result, Err, Ok}
 use Rattle.field.specs.declared.{Extent.Extent, Octet.Octet, Piece.Piece}
-use Rattle.field.specs.declared.Flaw.{Flaw, TheVariants.Invalid}
+use Rattle.field.specs.declared.Flaw.{Flaw}
 use Rattle.field.specs.{Kind.Kind, Kind.Value, Cell.Cell, Cell.judged, Cell.here, Cell.word_of, Code.Extent.Lists, Code.Extent.parts_in}
 use Rattle.field.specs.Judge.{when, on_some, parts_of, octet_in, naturals_in, octets_in, string_sized, judge}
 use Rattle.field.specs.Code.At.{end_of, leaves_from, shallow_at, nested_end, cell_at, string_filled}

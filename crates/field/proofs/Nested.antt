@@ -14,7 +14,7 @@ use Rattle.std.specs.Prelude.{Option as Answer, Some, None}
 use Rattle.field.specs.declared.{Extent.Extent, Piece.Piece}
 use Rattle.field.specs.Code.Extent.{parts_in, Lists}
 use Rattle.field.specs.Judge.{on_some, parts_of, octets_in, piece_in}
-use Rattle.field.specs.Code.At.{leaves_from, shallow_at, leaves_end, nested_end, nested_from, nested_by, nested_at}
+use Rattle.field.specs.Code.At.{shallow_at, leaves_end, nested_end, nested_from, nested_by, nested_at}
 use Rattle.field.specs.Code.Item.{naturals_from, octets_from, piece_by, octets_passed, piece_at}
 use Rattle.field.proofs.Shallow.{by_shallow, by_nested, shallow_past, leaf_all}
 use Rattle.field.proofs.Arrays.{no_parts, length_naturals}

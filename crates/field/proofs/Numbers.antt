@@ -1,7 +1,7 @@
 -- Whole numbers under a kind: each law in the shape of a need of the code. A whole below 0 is -1 - k, and its 64 bits are those of k turned.
 -- Assumes nothing.
 use mathlib.Core.Path.{◌≡◌, refl, sym, ap, ◌∙◌}
-use mathlib.Core.{Bool.Bool, Bool.true, Bool.false, List.List}
+use mathlib.Core.{Bool.true, Bool.false, List.List}
 use Prim.Native.Nat.{ℕ, suc, ◌+◌, ◌-◌, ◌^◌, ◌≤◌, ◌<◌}
 use native.Mathlib.Omega.{arith}
 use lib.{Dec.T, ListN.length, ListN.get_or, Signed.lt_z, Signed.mag, Signed.non_neg}

@@ -1,11 +1,11 @@
 -- A part of an array of bytes: a whole number from 0 to 255 in any form, and the place behind it. Each law in the shape of a need of the code.
 -- Assumes nothing.
 use mathlib.Core.Path.{◌≡◌, refl, sym, ap, ap₂, ◌∙◌}
-use mathlib.Core.{Bool.Bool, Bool.true, Bool.false, List.List, Option.Option, Option.some, Option.none}
+use mathlib.Core.{Bool.Bool, Bool.true, List.List, Option.Option, Option.some, Option.none}
 use Prim.Native.Nat.{ℕ, ◌+◌, ◌≤◌, ◌<◌}
 use native.Mathlib.Nat.{add-zero, zero-add}
 use native.Mathlib.Omega.{arith}
-use lib.{Dec.lit<, IntN.ℤ, Ieee.Float, ListN.length, ListN.get_or}
+use lib.{IntN.ℤ, Ieee.Float, ListN.length, ListN.get_or}
 use mir.Syntax.{w8, w64}
 use mir.Val.{Fits}
 use borrow.Author.Tests.{le-leb, lt-leb}
@@ -14,7 +14,7 @@ use Rattle.octets.proofs.Reading.{inside}
 use Rattle.element.specs.declared.Shape.TheVariants.{Plain}
 use Rattle.element.specs.{Lead.head_of, Lead.lead_bytes, Lead.row_in, Form.span_of, Code.At.leaf_at}
 use Rattle.number.specs.declared.Number.{Number, TheVariants.Signed, TheVariants.Unsigned, TheVariants.Real}
-use Rattle.std.specs.Prelude.{Option as Answer, Some, None}
+use Rattle.std.specs.Prelude.{Some, None}
 use Rattle.number.specs.{Number.Found, Number.number_of, Code.Body.bits_at}
 use Rattle.number.proofs.Reading.{small_is, unsigned1}
 use Rattle.walk.proofs.Leads.{row, says_low}

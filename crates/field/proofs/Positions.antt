@@ -1,10 +1,8 @@
 -- Positions: three reals behind each other, and no fewer or more. Each law in the shape of a need of the code. Assumes nothing.
 use mathlib.Core.Path.{◌≡◌, refl, sym, ap, ◌∙◌}
-use mathlib.Core.Bool.{Bool, true, false, ◌&&◌}
 use mathlib.Core.{List.List, List.[], List.◌∷◌, Option.Option, Option.some, Option.none}
 use Prim.Native.Nat.{ℕ, zero, suc}
 use lib.Ieee.{Float}
-use Rattle.octets.specs.Choice.{either}
 use Rattle.element.specs.{Form.span_of, Meaning.Elements, Code.At.leaf_at}
 use Rattle.number.specs.Number.{number_of}
 use Rattle.std.specs.Prelude.{Option as Answer, Some, None}

@@ -1,7 +1,7 @@
 -- Counters put into lent bytes: the room with the counters that are left put from the i-th place on is the room with all of them.
 -- Each law in the shape of a need of the code. Assumes nothing.
 use mathlib.Core.Path.{◌≡◌, refl, sym, ap, ◌∙◌}
-use mathlib.Core.{Bool.Bool, Bool.true, Bool.false, List.List, List.◌∷◌, Option.Option, Option.some, Option.none}
+use mathlib.Core.{Bool.true, List.List, List.◌∷◌, Option.Option, Option.some, Option.none}
 use Prim.Native.Nat.{ℕ, ◌+◌, ◌-◌, ◌*◌, ◌≤◌, ◌<◌}
 use native.Mathlib.Nat.{sub-zero}
 use native.Mathlib.Omega.{arith}

@@ -120,11 +120,11 @@ module _ (s : List ℕ) (at : ℕ) where
 
   pub bears_other : (o : Opened) → o ≡ opened_at s at → (t : Bool) → t ≡ is_text o.shape → t ≡ false → Bears s at None
   bears_other o e t q u =
-          bears_nowhere s at
-          (by_opened s at (λ x. t ≡ is_text x.shape → text_of (shallow_at s at) ≡ none)
-          (λ cut f. ap text_of (shallow_cut s at cut))
-          (λ w span f. text_none (sym u ∙ f))
-          (q ∙ ap (λ (x : Opened). is_text x.shape) e))
+      bears_nowhere s at
+      (by_opened s at (λ x. t ≡ is_text x.shape → text_of (shallow_at s at) ≡ none)
+      (λ cut f. ap text_of (shallow_cut s at cut))
+      (λ w span f. text_none (sym u ∙ f))
+      (q ∙ ap (λ (x : Opened). is_text x.shape) e))
 
 pub part_there : (len from n : ℕ) → n ≤ len - from → Some (record { from = from; size = n }) ≡ part_from len from n
 unfolding part_from

@@ -5,9 +5,9 @@ ghost use Rattle.field.specs.{Kind.Kind, Judge.on_some, Judge.counts_sized, Cell
 ghost use Rattle.field.specs.{Code.Read.tell, Code.Read.read_at, Code.Lent.list_in, Code.Lent.counters_at, Code.Lent.AreCounters};
 
 use crate::array::array_at;
+use crate::counters_cell;
 use crate::head::number_end;
 use crate::whole::whole_at;
-use crate::counters_cell;
 
 const MOST_COUNTER: u64 = 0xFFFF_FFFF;
 

@@ -76,10 +76,10 @@ pub fn refusal(room: &[u8], n: usize) -> u8 {
 // Whether the value is that number; below 0 where `minus`.
 pub fn is_whole_number(room: &[u8], n: usize, minus: bool, x: u64) -> bool {
     match number::number_at(text::part(room, 0, n), VALUE) {
-        Number::Unsigned(u) => { if minus { false } else { u == x } }
-        Number::Signed(z) => { if minus { is_minus(z, x) } else { false } }
-        Number::Real(_) => false,
-        Number::Not => false,
+        Some(Number::Unsigned(u)) => !minus && u == x,
+        Some(Number::Signed(z)) => minus && is_minus(z, x),
+        Some(Number::Real(_)) => false,
+        None => false,
     }
 }
 
@@ -98,10 +98,10 @@ fn is_minus(z: i64, x: u64) -> bool {
 // Whether the value is a real of these bits.
 pub fn is_real(room: &[u8], n: usize, bits: u64) -> bool {
     match number::number_at(text::part(room, 0, n), VALUE) {
-        Number::Unsigned(_) => false,
-        Number::Signed(_) => false,
-        Number::Real(x) => has_bits(x, bits),
-        Number::Not => false,
+        Some(Number::Real(x)) => has_bits(x, bits),
+        Some(Number::Unsigned(_)) => false,
+        Some(Number::Signed(_)) => false,
+        None => false,
     }
 }
 
@@ -115,10 +115,5 @@ fn has_bits(x: f64, bits: u64) -> bool {
 
 // Whether the value is no number.
 pub fn is_none(room: &[u8], n: usize) -> bool {
-    match number::number_at(text::part(room, 0, n), VALUE) {
-        Number::Unsigned(_) => false,
-        Number::Signed(_) => false,
-        Number::Real(_) => false,
-        Number::Not => true,
-    }
+    number::number_at(text::part(room, 0, n), VALUE).is_none()
 }

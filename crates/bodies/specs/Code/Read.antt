@@ -1,13 +1,15 @@
 -- A command's fields by places in the bytes: the gravest fault, the record, and the room that userData's bytes are read into.
-use Rattle.std.specs.Prelude.{ℕ, max}
-use mathlib.Core.{Bool.Bool, Bool.◌&&◌, Bool.◌||◌, Bool.not, List.List, List.[]}
+use Rattle.std.specs.Prelude.{ℕ, max, true, false, Option, Some, None, is_none}
+use mathlib.Core.{Bool.Bool, Bool.◌&&◌, Bool.not, List.List, List.[]}
 use lib.{Dec.eqb, Dec.leb, ListN.get_or, ListN.drop}
 use Rattle.octets.specs.Choice.{either}
 use Rattle.names.specs.{Names.bytes, Names.downlink, Code.Slots.slot_of}
 use Rattle.field.specs.{Cell.Cell, Code.Into.read_into}
-use Rattle.message.specs.{Fields.Field, Fields.received, Fields.downlink_fields, Fields.fields_of, Record.maybe_mark, Code.Cells.cells_at}
+use Rattle.message.specs.{Fields.Field, Fields.received, Fields.downlink_fields, Fields.fields_of, Code.Cells.cells_at}
+use Rattle.message.specs.declared.Maybe.{Maybe}
+use Rattle.message.specs.Record.{mark_in, maybe_of}
+use Rattle.field.specs.declared.Flaw.{Flaw, TheVariants.Invalid, TheVariants.Missing, TheVariants.Twice}
 use Rattle.message.specs.Reading.{graded, gravest, look_in, crossed}
-use Rattle.message.specs.declared.MaybeMark.{MaybeMark}
 use Rattle.record.specs.Record.{packet_of, body_of, message_of}
 use Rattle.record.specs.declared.{Body.Body, Packet.Packet}
 use Rattle.bodies.specs.declared.{Held.Held, Parts.Parts, Marks.Marks, Graded.Graded}
@@ -52,10 +54,10 @@ module _ (s at : List ℕ) where
   flags_as w = record {
     worst = gravest w 9 flag_fields (cells_at flag_fields s at);
     value = record {
-      response_exp = maybe_mark (look_for downlink (bytes "responseExp"));
-      response_prio = maybe_mark (look_for downlink (bytes "responsePrio"));
-      dl_wind_req = maybe_mark (look_for downlink (bytes "dlWindReq"));
-      exp_only = maybe_mark (look_for downlink (bytes "expOnly"));
+      response_exp = maybe_of mark_in (look_for downlink (bytes "responseExp"));
+      response_prio = maybe_of mark_in (look_for downlink (bytes "responsePrio"));
+      dl_wind_req = maybe_of mark_in (look_for downlink (bytes "dlWindReq"));
+      exp_only = maybe_of mark_in (look_for downlink (bytes "expOnly"));
     };
   }
 
@@ -77,11 +79,18 @@ crossed_by expected known opened = either (expected && (known && not opened)) (�
 -- cntDepend against its counts
 unfoldable pub agree_by : Bool → Parts → Parts → Bool
 agree_by depends cs es =
-    either depends (λ _. eqb cs.state 0 && (eqb cs.count es.count && leb 1 es.count)) (λ _. not (eqb cs.state 0) && eqb es.count 1)
+    either depends (λ _. is_none cs.flaw && (eqb cs.count es.count && leb 1 es.count)) (λ _. not (is_none cs.flaw) && eqb es.count 1)
 
-unfoldable pub miscounted_by : MaybeMark → Parts → Parts → ℕ
+-- a field that is there, or absent
+abbrev pub is_valid_by : Option Flaw → Bool
+is_valid_by None = true
+is_valid_by (Some Invalid) = false
+is_valid_by (Some Missing) = true
+is_valid_by (Some Twice) = false
+
+unfoldable pub miscounted_by : Maybe Bool → Parts → Parts → ℕ
 miscounted_by depends cs es =
-    either (depends.here && ((eqb cs.state 0 || eqb cs.state 2) && (eqb es.state 0 && not (agree_by depends.value cs es)))) (λ _. graded 1 5) (λ _. 0)
+    either (depends.here && (is_valid_by cs.flaw && (is_none es.flaw && not (agree_by depends.value cs es)))) (λ _. graded 1 5) (λ _. 0)
 
 unfoldable pub bodied_of : List ℕ → List ℕ → ℕ → List ℕ → ℕ → Bodying
 bodied_of s at c user w =

@@ -1,7 +1,6 @@
 -- The bytes behind a number's lead byte, where they are there.
 use Rattle.std.specs.Prelude.{ℕ, Bool, Option, Some, None, List, length}
 use Rattle.octets.specs.{Choice.either, Number.big_at, Number.is_there}
-use Rattle.number.specs.declared.Number.{Number}
 use Rattle.number.specs.Number.{Found}
 
 abbrev pub given : {A : Type 0} → Bool → A → Option A
