@@ -3,7 +3,7 @@ use mathlib.Core.{Path.◌≡◌, List.List}
 use mathlib.Core.Bool.{true, false}
 use Prim.Native.Nat.{ℕ, suc, ◌+◌, max}
 use native.Mathlib.Omega.{arith}
-use lib.{IntN.ℤ, ListN.get_or}
+use lib.{IntN.ℤ, Ieee.Float, ListN.get_or}
 use mir.Syntax.{w32}
 use mir.Val.{SFits, of_z, to_z}
 use mir.ValLaws.{to_z-of_z}
@@ -11,11 +11,12 @@ use Rattle.names.specs.{Names.place_in, Code.Slots.keys, Code.Slots.slot_of}
 use Rattle.field.specs.Kind.{Kind, unsigned64, unsigned32, unsigned16, unsigned8, signed32, station_id, centre_id, bytes16, bytes4, user_bytes, profile_text, status_text}
 use Rattle.field.specs.{Cell.Cell, Cell.here, Code.At.cell_at, Code.Into.read_into}
 use Rattle.message.specs.{Fields.described, Fields.lists, Fields.list_in, Code.Cells.cells_at}
-use Rattle.message.specs.Record.{word_in, id_in, mark_in, maybe_word, maybe_id, maybe_real, maybe_mark, maybe_position}
-use Rattle.message.specs.declared.{MaybeWord.MaybeWord, MaybeId.MaybeId, MaybeReal.MaybeReal, MaybeMark.MaybeMark, MaybePosition.MaybePosition, MaybeVersion.MaybeVersion}
+use Rattle.message.specs.Record.{word_in, figure_in, id_in, mark_in, position_in, version_in, maybe_of}
+use Rattle.field.specs.declared.Position.{Position}
+use Rattle.message.specs.declared.{Maybe.Maybe, Version.Version}
 use Rattle.message.specs.Reading.{gravest, look_in, place_among}
 use Rattle.record.specs.declared.{Sixteen.Sixteen, Packet.Packet, Body.Body}
-use Rattle.record.specs.Record.{maybe_version, four_in, sixteen_in, body_in}
+use Rattle.record.specs.Record.{four_in, sixteen_in, body_in}
 use Rattle.bodies.specs.declared.{Held.Held, Profile.Profile}
 use Rattle.bodies.specs.Code.Held.{judged_as, held_as, profile_in}
 use Rattle.bodies.specs.Code.Read.{plain_of, packet_as, Bodying, bodying, crossed_by, bodied_of}
@@ -38,10 +39,10 @@ module _ (s at : List ℕ) where
       let i4 : i + 4 ≡ suc (suc (suc (suc i))) = omega arith in
       rw (z, y, x, q, p, i1, i2, i3, i4)
 
-  pub con_is : (w : ℕ) (a : Held MaybeVersion) (b : Held MaybeWord) (c : Held MaybeMark) (d : Held MaybePosition) (e : Held Sixteen) (f g : Held MaybeId) (x : ℕ)
-      → a ≡ held_as maybe_version true 2 (on Kind.versions 2) w → b ≡ held_as maybe_word true 3 (on unsigned64 3) a.worst → c ≡ held_as maybe_mark true 4 (on Kind.flags 4) b.worst
-      → d ≡ held_as maybe_position false 5 (on Kind.positions 5) c.worst → e ≡ held_as sixteen_in true 6 (on bytes16 6) d.worst → f ≡ held_as maybe_id false 7 (on station_id 7) e.worst
-      → g ≡ held_as maybe_id false 8 (on centre_id 8) f.worst → x ≡ gravest g.worst 9 described (cells_at described s at)
+  pub con_is : (w : ℕ) (a : Held (Maybe Version)) (b : Held (Maybe ℕ)) (c : Held (Maybe Bool)) (d : Held (Maybe Position)) (e : Held Sixteen) (f g : Held (Maybe ℤ)) (x : ℕ)
+      → a ≡ held_as (maybe_of version_in) true 2 (on Kind.versions 2) w → b ≡ held_as (maybe_of word_in) true 3 (on unsigned64 3) a.worst → c ≡ held_as (maybe_of mark_in) true 4 (on Kind.flags 4) b.worst
+      → d ≡ held_as (maybe_of position_in) false 5 (on Kind.positions 5) c.worst → e ≡ held_as sixteen_in true 6 (on bytes16 6) d.worst → f ≡ held_as (maybe_of id_in) false 7 (on station_id 7) e.worst
+      → g ≡ held_as (maybe_of id_in) false 8 (on centre_id 8) f.worst → x ≡ gravest g.worst 9 described (cells_at described s at)
       → ◌≡◌ {A = Held Body}
       (record {
         worst = x;
@@ -51,8 +52,8 @@ module _ (s at : List ℕ) where
   unfolding plain_of judged_as held_as gravest cells_at lists list_in look_in body_in slot_of place_in keys
   con_is w a b c d e f g x pa pb pc pd pe pf pg px = rw (px, pg, pf, pe, pd, pc, pb, pa)
 
-  pub con_rsp_is : (w : ℕ) (a : Held MaybeVersion) (b : Held MaybeWord) (c : Held MaybeMark) (d : Held Sixteen) (x : ℕ)
-      → a ≡ held_as maybe_version false 2 (on Kind.versions 2) w → b ≡ held_as maybe_word true 3 (on unsigned64 14) a.worst → c ≡ held_as maybe_mark true 4 (on Kind.flags 15) b.worst
+  pub con_rsp_is : (w : ℕ) (a : Held (Maybe Version)) (b : Held (Maybe ℕ)) (c : Held (Maybe Bool)) (d : Held Sixteen) (x : ℕ)
+      → a ≡ held_as (maybe_of version_in) false 2 (on Kind.versions 2) w → b ≡ held_as (maybe_of word_in) true 3 (on unsigned64 14) a.worst → c ≡ held_as (maybe_of mark_in) true 4 (on Kind.flags 15) b.worst
       → d ≡ held_as sixteen_in true 5 (on bytes16 16) c.worst → x ≡ gravest d.worst 6 described (cells_at described s at)
       → ◌≡◌ {A = Held Body}
       (record { worst = x; value = Body.ConRsp (record { version = a.value; sc_eui = b.value.value; sn_resume = c.value.value; sn_sc_uuid = d.value }) })
@@ -60,10 +61,10 @@ module _ (s at : List ℕ) where
   unfolding plain_of judged_as held_as gravest cells_at lists list_in look_in body_in slot_of place_in keys
   con_rsp_is w a b c d x pa pb pc pd px = rw (px, pd, pc, pb, pa)
 
-  pub status_is : (w : ℕ) (a : Held ℤ) (b : Held ℕ) (c : Held MaybeWord) (d : Held MaybeReal) (e : Held MaybePosition) (f : Held MaybeWord) (g h i : Held MaybeReal) (x : ℕ) → SFits w32 a.value
-      → a ≡ held_as id_in true 2 (on signed32 17) w → b ≡ held_as word_in true 3 (on status_text 18) a.worst → c ≡ held_as maybe_word true 4 (on unsigned64 19) b.worst
-      → d ≡ held_as maybe_real true 5 (on Kind.reals 20) c.worst → e ≡ held_as maybe_position false 6 (on Kind.positions 5) d.worst → f ≡ held_as maybe_word false 7 (on unsigned64 21) e.worst
-      → g ≡ held_as maybe_real false 8 (on Kind.reals 22) f.worst → h ≡ held_as maybe_real false 9 (on Kind.reals 23) g.worst → i ≡ held_as maybe_real false 10 (on Kind.reals 24) h.worst
+  pub status_is : (w : ℕ) (a : Held ℤ) (b : Held ℕ) (c : Held (Maybe ℕ)) (d : Held (Maybe Float)) (e : Held (Maybe Position)) (f : Held (Maybe ℕ)) (g h i : Held (Maybe Float)) (x : ℕ) → SFits w32 a.value
+      → a ≡ held_as id_in true 2 (on signed32 17) w → b ≡ held_as word_in true 3 (on status_text 18) a.worst → c ≡ held_as (maybe_of word_in) true 4 (on unsigned64 19) b.worst
+      → d ≡ held_as (maybe_of figure_in) true 5 (on Kind.reals 20) c.worst → e ≡ held_as (maybe_of position_in) false 6 (on Kind.positions 5) d.worst → f ≡ held_as (maybe_of word_in) false 7 (on unsigned64 21) e.worst
+      → g ≡ held_as (maybe_of figure_in) false 8 (on Kind.reals 22) f.worst → h ≡ held_as (maybe_of figure_in) false 9 (on Kind.reals 23) g.worst → i ≡ held_as (maybe_of figure_in) false 10 (on Kind.reals 24) h.worst
       → x ≡ judged_as false 11 (on Kind.maps 25) i.worst
       → ◌≡◌ {A = Held Body}
       (record {
@@ -76,10 +77,10 @@ module _ (s at : List ℕ) where
   unfolding plain_of judged_as held_as gravest cells_at lists list_in look_in body_in slot_of place_in keys
   status_is w a b c d e f g h i x fit pa pb pc pd pe pf pg ph pi px = rw (to_z-of_z w32 a.value fit, px, pi, ph, pg, pf, pe, pd, pc, pb, pa)
 
-  pub packet_is : (w : ℕ) (a b c : Held MaybeWord) (d : Held ℕ) (e f g : Held MaybeReal) (h : Held Profile)
-      → a ≡ held_as maybe_word true 2 (on unsigned64 26) w → b ≡ held_as maybe_word true 3 (on unsigned64 27) a.worst → c ≡ held_as maybe_word false 4 (on unsigned64 28) b.worst
-      → d ≡ held_as word_in true 5 (on unsigned32 29) c.worst → e ≡ held_as maybe_real true 6 (on Kind.reals 30) d.worst → f ≡ held_as maybe_real true 7 (on Kind.reals 31) e.worst
-      → g ≡ held_as maybe_real false 8 (on Kind.reals 32) f.worst → h ≡ held_as profile_in false 9 (on profile_text 33) g.worst
+  pub packet_is : (w : ℕ) (a b c : Held (Maybe ℕ)) (d : Held ℕ) (e f g : Held (Maybe Float)) (h : Held Profile)
+      → a ≡ held_as (maybe_of word_in) true 2 (on unsigned64 26) w → b ≡ held_as (maybe_of word_in) true 3 (on unsigned64 27) a.worst → c ≡ held_as (maybe_of word_in) false 4 (on unsigned64 28) b.worst
+      → d ≡ held_as word_in true 5 (on unsigned32 29) c.worst → e ≡ held_as (maybe_of figure_in) true 6 (on Kind.reals 30) d.worst → f ≡ held_as (maybe_of figure_in) true 7 (on Kind.reals 31) e.worst
+      → g ≡ held_as (maybe_of figure_in) false 8 (on Kind.reals 32) f.worst → h ≡ held_as profile_in false 9 (on profile_text 33) g.worst
       → ◌≡◌ {A = Held Packet}
       (record {
         worst = h.worst;
@@ -88,7 +89,7 @@ module _ (s at : List ℕ) where
           rx_time = b.value.value;
           rx_duration = c.value;
           packet_cnt = d.value;
-          signal = record { snr = e.value.value; rssi = f.value.value; eq_snr = g.value.value; has_eq_snr = g.value.here };
+          signal = record { snr = e.value.value; rssi = f.value.value; eq_snr = g.value };
           profile_len = h.value.len;
           profile = h.value.text;
         };
@@ -103,9 +104,9 @@ module _ (s at : List ℕ) where
     unfolding plain_of packet_as judged_as held_as gravest cells_at lists list_in look_in body_in slot_of place_in keys
     det_is a x pa px = rw (px, pa, pp)
 
-    pub ul_data_is : (user room : List ℕ) (a b : Held ℕ) (c d e : Held MaybeMark) (f g x y : ℕ)
+    pub ul_data_is : (user room : List ℕ) (a b : Held ℕ) (c d e : Held (Maybe Bool)) (f g x y : ℕ)
         → room ≡ read_into s (get_or at 43 0) user → a ≡ held_as word_in true 10 (on user_bytes 43) p.worst → b ≡ held_as word_in false 11 (on unsigned8 44) a.worst
-        → c ≡ held_as maybe_mark true 12 (on Kind.flags 45) b.worst → d ≡ held_as maybe_mark true 13 (on Kind.flags 46) c.worst → e ≡ held_as maybe_mark true 14 (on Kind.flags 47) d.worst
+        → c ≡ held_as (maybe_of mark_in) true 12 (on Kind.flags 45) b.worst → d ≡ held_as (maybe_of mark_in) true 13 (on Kind.flags 46) c.worst → e ≡ held_as (maybe_of mark_in) true 14 (on Kind.flags 47) d.worst
         → f ≡ judged_as false 15 (on Kind.words 48) e.worst → g ≡ judged_as false 16 (on Kind.maps 35) f → x ≡ crossed_by d.value.value c.value.here c.value.value → y ≡ max g x
         → ◌≡◌ {A = Bodying}
         (bodying
@@ -121,10 +122,10 @@ module _ (s at : List ℕ) where
   unfolding plain_of judged_as held_as gravest cells_at lists list_in look_in body_in slot_of place_in keys
   det_rsp_is w a pa = rw pa
 
-  pub att_prp_is : (w : ℕ) (a : Held MaybeWord) (b : Held MaybeMark) (c : Held Sixteen) (d : Held ℕ) (e : Held ℕ) (f g h i : Held MaybeMark)
-      → a ≡ held_as maybe_word true 2 (on unsigned64 26) w → b ≡ held_as maybe_mark true 3 (on Kind.flags 4) a.worst → c ≡ held_as sixteen_in true 4 (on bytes16 36) b.worst
-      → d ≡ held_as word_in true 5 (on unsigned16 37) c.worst → e ≡ held_as word_in true 6 (on unsigned32 38) d.worst → f ≡ held_as maybe_mark true 7 (on Kind.flags 39) e.worst
-      → g ≡ held_as maybe_mark true 8 (on Kind.flags 40) f.worst → h ≡ held_as maybe_mark true 9 (on Kind.flags 41) g.worst → i ≡ held_as maybe_mark true 10 (on Kind.flags 42) h.worst
+  pub att_prp_is : (w : ℕ) (a : Held (Maybe ℕ)) (b : Held (Maybe Bool)) (c : Held Sixteen) (d : Held ℕ) (e : Held ℕ) (f g h i : Held (Maybe Bool))
+      → a ≡ held_as (maybe_of word_in) true 2 (on unsigned64 26) w → b ≡ held_as (maybe_of mark_in) true 3 (on Kind.flags 4) a.worst → c ≡ held_as sixteen_in true 4 (on bytes16 36) b.worst
+      → d ≡ held_as word_in true 5 (on unsigned16 37) c.worst → e ≡ held_as word_in true 6 (on unsigned32 38) d.worst → f ≡ held_as (maybe_of mark_in) true 7 (on Kind.flags 39) e.worst
+      → g ≡ held_as (maybe_of mark_in) true 8 (on Kind.flags 40) f.worst → h ≡ held_as (maybe_of mark_in) true 9 (on Kind.flags 41) g.worst → i ≡ held_as (maybe_of mark_in) true 10 (on Kind.flags 42) h.worst
       → ◌≡◌ {A = Held Body}
       (record {
         worst = i.worst;
@@ -136,6 +137,6 @@ module _ (s at : List ℕ) where
   unfolding plain_of judged_as held_as gravest cells_at lists list_in look_in body_in slot_of place_in keys
   att_prp_is w a b c d e f g h i pa pb pc pd pe pf pg ph pi = rw (pi, ph, pg, pf, pe, pd, pc, pb, pa)
 
-  pub det_prp_is : (w : ℕ) (a : Held MaybeWord) → a ≡ held_as maybe_word true 2 (on unsigned64 26) w → ◌≡◌ {A = Held Body} (record { worst = a.worst; value = Body.DetPrp a.value.value }) (plain_of s at 6 w)
+  pub det_prp_is : (w : ℕ) (a : Held (Maybe ℕ)) → a ≡ held_as (maybe_of word_in) true 2 (on unsigned64 26) w → ◌≡◌ {A = Held Body} (record { worst = a.worst; value = Body.DetPrp a.value.value }) (plain_of s at 6 w)
   unfolding plain_of judged_as held_as gravest cells_at lists list_in look_in body_in slot_of place_in keys
   det_prp_is w a pa = rw pa

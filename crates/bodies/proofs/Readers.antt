@@ -12,7 +12,7 @@ use Rattle.field.specs.declared.{Judged.Judged}
 use Rattle.field.specs.Kind.{Kind, signed32, profile_text, status_text}
 use Rattle.field.specs.{Cell.Cell, Cell.here, Code.At.cell_at}
 use Rattle.field.specs.Code.Told.{cell_state, told_of}
-use Rattle.message.specs.Record.{id_in, mark_in, maybe_id}
+use Rattle.message.specs.Record.{id_in, mark_in, maybe_of}
 use Rattle.message.specs.Reading.{cell_fault, graded}
 use Rattle.bodies.specs.Code.Held.{judged_as, held_as}
 use Rattle.bodies.proofs.Worth.{Most, worth, cell_most, here_state, id_word, code_word, mark_word}
@@ -75,7 +75,7 @@ pub ruleset passes = (passed_good, passed_not)
 -- a signed number, of 64 bits and of 32: what the code learns of the gravest fault, and the number's bits
 module _ (s : List ℕ) (p i w r : ℕ) (j : Judged) (must : Bool) (g : (d : Cell) → j.state ≡ cell_state d → r ≡ judged_as must i d w) (z : ℤ) where
   pub number_is : (lo hi : ℕ) → lo ≤ 2 ^ 63 → hi < 2 ^ 63 → j ≡ told_of (cell_at (Kind.wholes lo hi) s p) → SFits w64 z → z ≡ signed_of 64 j.word
-      → record { worst = r; value = record { here = eqb j.state 0; value = to_z w64 (of_z w64 z) } } ≡ held_as maybe_id must i (cell_at (Kind.wholes lo hi) s p) w
+      → record { worst = r; value = record { here = eqb j.state 0; value = to_z w64 (of_z w64 z) } } ≡ held_as (maybe_of id_in) must i (cell_at (Kind.wholes lo hi) s p) w
   unfolding held_as
   number_is lo hi x y e f q =
       let c = cell_at (Kind.wholes lo hi) s p in

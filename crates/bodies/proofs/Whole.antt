@@ -4,15 +4,15 @@ use mathlib.Core.Path.{◌≡◌, refl, sym, ap, ◌∙◌}
 use mathlib.Core.{Bool.true, Bool.false, List.List}
 use Prim.Native.Nat.{ℕ, max}
 use native.Mathlib.Omega.{arith}
-use lib.{Dec.eqb, ListN.get_or}
+use lib.{Dec.eqb, IntN.ℤ, ListN.get_or}
 use borrow.Author.Tests.{ne_eqb, eqb-false}
 use mir.Syntax.{w64}
 use mir.Val.{SFits, of_z, to_z}
 use mir.ValLaws.{to_z-of_z}
 use Rattle.names.specs.{Names.bytes, Names.place_in, Names.downlink, Code.Slots.keys, Code.Slots.slot_of}
 use Rattle.field.specs.{Kind.Kind, Kind.signed64, Code.At.cell_at}
-use Rattle.message.specs.{Fields.lists, Fields.list_in, Fields.fields_of, Code.Cells.cells_at, Record.id_in, Record.maybe_id}
-use Rattle.message.specs.declared.MaybeId.{MaybeId}
+use Rattle.message.specs.{Fields.lists, Fields.list_in, Fields.fields_of, Code.Cells.cells_at, Record.id_in, Record.maybe_of}
+use Rattle.message.specs.declared.Maybe.{Maybe}
 use Rattle.message.specs.{Reading.gravest, Reading.look_in, Reading.crossed}
 use Rattle.record.specs.declared.Body.{Body}
 use Rattle.record.specs.Record.{body_in, message_of}
@@ -87,8 +87,8 @@ module _ (s at : List ℕ) where
   named : ℕ
   named = judged_as true 0 (cell_at Kind.words s (get_or at 0 0)) 0
 
-  numbered : Held MaybeId
-  numbered = held_as maybe_id true 1 (cell_at signed64 s (get_or at 1 0)) named
+  numbered : Held (Maybe ℤ)
+  numbered = held_as (maybe_of id_in) true 1 (cell_at signed64 s (get_or at 1 0)) named
 
   gravest_headed : (c : ℕ) → gravest 0 0 (fields_of c) (cells_at (fields_of c) s at) ≡ gravest_from s at c numbered.worst
   unfolding named numbered held_as judged_as gravest cells_at slot_of place_in keys
@@ -107,15 +107,15 @@ module _ (s at : List ℕ) where
   id_look dl_data_que = refl
   id_look (bare (past i) e) = rw e
 
-  pub read_is : (c : ℕ) (user room : List ℕ) (x : ℕ) (i : Held MaybeId) (b : Held Body) → SFits w64 i.value.value
-      → x ≡ judged_as true 0 (cell_at Kind.words s (get_or at 0 0)) 0 → i ≡ held_as maybe_id true 1 (cell_at signed64 s (get_or at 1 0)) x
+  pub read_is : (c : ℕ) (user room : List ℕ) (x : ℕ) (i : Held (Maybe ℤ)) (b : Held Body) → SFits w64 i.value.value
+      → x ≡ judged_as true 0 (cell_at Kind.words s (get_or at 0 0)) 0 → i ≡ held_as (maybe_of id_in) true 1 (cell_at signed64 s (get_or at 1 0)) x
       → ◌≡◌ {A = Bodying} (bodying b room) (bodied_of s at c user i.worst)
       → ◌≡◌ {A = Read} (record { graded = record { worst = b.worst; message = record { op_id = to_z w64 (of_z w64 i.value.value); body = b.value } }; user = room }) (read_of s at c user)
   unfolding read_of bodied_of plain_of message_of named numbered held_as
   read_is c user room x i b fit px pi pb =
-      let j : i ≡ numbered = pi ∙ ap (held_as maybe_id true 1 (cell_at signed64 s (get_or at 1 0))) px in
-      let z : i.value.value ≡ id_in (look_for s at c (bytes "opId")) = ap (λ (h : Held MaybeId). h.value.value) j ∙ ap id_in (sym (id_look (command c))) in
-      let g : gravest_from s at c i.worst ≡ gravest 0 0 (fields_of c) (cells_at (fields_of c) s at) = ap (λ (h : Held MaybeId). gravest_from s at c h.worst) j ∙ sym (gravest_headed c) in
+      let j : i ≡ numbered = pi ∙ ap (held_as (maybe_of id_in) true 1 (cell_at signed64 s (get_or at 1 0))) px in
+      let z : i.value.value ≡ id_in (look_for s at c (bytes "opId")) = ap (λ (h : Held (Maybe ℤ)). h.value.value) j ∙ ap id_in (sym (id_look (command c))) in
+      let g : gravest_from s at c i.worst ≡ gravest 0 0 (fields_of c) (cells_at (fields_of c) s at) = ap (λ (h : Held (Maybe ℤ)). gravest_from s at c h.worst) j ∙ sym (gravest_headed c) in
       rw (to_z-of_z w64 i.value.value fit, z)
       (ap (λ (y : Bodying). record { graded = record { worst = y.bodied.worst; message = record { op_id = id_in (look_for s at c (bytes "opId")); body = y.bodied.value } }; user = y.user }) pb
       ∙ rw g)

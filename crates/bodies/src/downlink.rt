@@ -3,7 +3,7 @@ ghost use Rattle.std.specs.Prelude.{◌≡◌};
 ghost use Rattle.bodies.specs.Code.Read.{flags_as, downlink_of, miscounted_by, agree_by};
 
 use crate::{Held, Marks, Parts, part};
-use message::{MaybeMark, listed};
+use message::{Maybe, listed};
 use names::slots;
 use record::Body;
 
@@ -88,7 +88,7 @@ fn flags(s: &[u8], at: &[u16; 64], worst: u16) -> Held<Marks>
 
 // cntDepend against its counts is invalid, at packetCnt's place, where all three are valid.
 #[tactic(auto, unfolding(crate::specs::Code::Read::miscounted_by))]
-fn miscounted(depends: MaybeMark, counters: Parts, entries: Parts) -> u16
+fn miscounted(depends: Maybe<bool>, counters: Parts, entries: Parts) -> u16
     ensures { result ≡ miscounted_by depends counters entries }
 {
     let known = (counters.state == part::GOOD) | (counters.state == part::MISSING);

@@ -13,7 +13,7 @@ ghost use Rattle.bodies.specs.Code.Read.{Read, read_of, Bodying, bodying, bodied
 
 use connect::{con, con_rsp};
 use downlink::dl_data_que;
-use message::{MaybeMark, listed};
+use message::{Maybe, listed};
 use names::{numbers, slots};
 use propagate::{att_prp, det_prp};
 use record::{Body, Message, Sixteen};
@@ -43,10 +43,10 @@ struct Profile {
 // A downlink's optional marks.
 #[derive(Clone, Copy)]
 struct Marks {
-    response_exp: MaybeMark,
-    response_prio: MaybeMark,
-    dl_wind_req: MaybeMark,
-    exp_only: MaybeMark,
+    response_exp: Maybe<bool>,
+    response_prio: Maybe<bool>,
+    dl_wind_req: Maybe<bool>,
+    exp_only: Maybe<bool>,
 }
 
 // A fault of rank 1 (invalid), 2 (missing) or 3 (twice) counts for more than any place.

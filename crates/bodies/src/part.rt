@@ -4,12 +4,13 @@ ghost use Rattle.std.specs.Prelude.{◌^◌, ◌≤◌, ◌<◌, max};
 ghost use Rattle.field.specs.Kind.{Kind, unsigned64, unsigned32, unsigned16, unsigned8, signed32, bytes16, bytes4, user_bytes, profile_text, status_text};
 ghost use Rattle.field.specs.{Cell.Cell, Code.Told.cell_state, Code.At.cell_at, Code.Into.read_into};
 ghost use Rattle.message.specs.Reading.{cell_fault, graded};
-ghost use Rattle.message.specs.Record.{word_in, id_in, maybe_word, maybe_id, maybe_real, maybe_mark, maybe_position};
-ghost use Rattle.record.specs.Record.{maybe_version, four_in, sixteen_in};
+ghost use Rattle.message.specs.Record.{word_in, figure_in, id_in, mark_in, position_in, version_in, maybe_of};
+ghost use Rattle.record.specs.Record.{four_in, sixteen_in};
 ghost use Rattle.bodies.specs.Code.Held.{judged_as, held_as, parts_in, profile_in, exactly, four_if, sixteen_if};
 
 use crate::{Held, Parts, Profile, RANK};
-use message::{MaybeId, MaybeMark, MaybePosition, MaybeReal, MaybeVersion, MaybeWord};
+use field::Position;
+use message::{Maybe, Version};
 use record::Sixteen;
 
 // Mandatory or not.
@@ -83,14 +84,14 @@ fn passed(worst: u16, i: u8, must: bool, state: u8) -> u16
 
 // A number of 64 bits.
 #[tactic(auto, using(crate::proofs::Worth::here_state), unfolding(crate::specs::Code::Held::held_as))]
-pub fn word(s: &[u8], p: u16, must: bool, i: u8, worst: u16) -> Held<MaybeWord>
+pub fn word(s: &[u8], p: u16, must: bool, i: u8, worst: u16) -> Held<Maybe<u64>>
     requires { i < 64 }
-    ensures { result ≡ held_as maybe_word must i (cell_at unsigned64 s.now p) worst }
+    ensures { result ≡ held_as (maybe_of word_in) must i (cell_at unsigned64 s.now p) worst }
 {
     let j = field::whole_cell(s, p as usize, 0, u64::MAX);
     Held {
         worst: passed(worst, i, must, j.state),
-        value: MaybeWord {
+        value: Maybe {
             here: j.state == GOOD,
             value: j.word,
         },
@@ -148,14 +149,14 @@ pub fn format(s: &[u8], p: u16, i: u8, worst: u16) -> Held<u8>
 }
 
 // An operation's number, from minus lo to hi.
-pub fn id(s: &[u8], p: u16, lo: u64, hi: u64, must: bool, i: u8, worst: u16) -> Held<MaybeId>
+pub fn id(s: &[u8], p: u16, lo: u64, hi: u64, must: bool, i: u8, worst: u16) -> Held<Maybe<i64>>
     requires { (i < 64) × (lo ≤ 2 ^ 63) × (hi < 2 ^ 63) }
-    ensures { result ≡ held_as maybe_id must i (cell_at (Kind.wholes lo hi) s.now p) worst }
+    ensures { result ≡ held_as (maybe_of id_in) must i (cell_at (Kind.wholes lo hi) s.now p) worst }
 {
     let j = field::whole_cell(s, p as usize, lo, hi);
     Held {
         worst: passed(worst, i, must, j.state),
-        value: MaybeId {
+        value: Maybe {
             here: j.state == GOOD,
             value: octets::signed_of(j.word),
         },
@@ -175,14 +176,14 @@ pub fn code(s: &[u8], p: u16, i: u8, worst: u16) -> Held<i32>
 }
 
 #[tactic(auto, using(crate::proofs::Worth::here_state, crate::proofs::Readers::mark_told), unfolding(crate::specs::Code::Held::held_as))]
-pub fn mark(s: &[u8], p: u16, must: bool, i: u8, worst: u16) -> Held<MaybeMark>
+pub fn mark(s: &[u8], p: u16, must: bool, i: u8, worst: u16) -> Held<Maybe<bool>>
     requires { i < 64 }
-    ensures { result ≡ held_as maybe_mark must i (cell_at Kind.flags s.now p) worst }
+    ensures { result ≡ held_as (maybe_of mark_in) must i (cell_at Kind.flags s.now p) worst }
 {
     let j = field::flag_cell(s, p as usize);
     Held {
         worst: passed(worst, i, must, j.state),
-        value: MaybeMark {
+        value: Maybe {
             here: j.state == GOOD,
             value: j.word == 1,
         },
@@ -190,14 +191,14 @@ pub fn mark(s: &[u8], p: u16, must: bool, i: u8, worst: u16) -> Held<MaybeMark>
 }
 
 #[tactic(auto, using(crate::proofs::Worth::here_state), unfolding(crate::specs::Code::Held::held_as))]
-pub fn real(s: &[u8], p: u16, must: bool, i: u8, worst: u16) -> Held<MaybeReal>
+pub fn real(s: &[u8], p: u16, must: bool, i: u8, worst: u16) -> Held<Maybe<f64>>
     requires { i < 64 }
-    ensures { result ≡ held_as maybe_real must i (cell_at Kind.reals s.now p) worst }
+    ensures { result ≡ held_as (maybe_of figure_in) must i (cell_at Kind.reals s.now p) worst }
 {
     let j = field::real_cell(s, p as usize);
     Held {
         worst: passed(worst, i, must, j.state),
-        value: MaybeReal {
+        value: Maybe {
             here: j.state == GOOD,
             value: j.figure,
         },
@@ -206,14 +207,14 @@ pub fn real(s: &[u8], p: u16, must: bool, i: u8, worst: u16) -> Held<MaybeReal>
 
 // A real that single precision holds exactly.
 #[tactic(auto, using(crate::proofs::Worth::here_state), unfolding(crate::specs::Code::Held::held_as))]
-pub fn single(s: &[u8], p: u16, i: u8, worst: u16) -> Held<MaybeReal>
+pub fn single(s: &[u8], p: u16, i: u8, worst: u16) -> Held<Maybe<f64>>
     requires { i < 64 }
-    ensures { result ≡ held_as maybe_real false i (cell_at Kind.singles s.now p) worst }
+    ensures { result ≡ held_as (maybe_of figure_in) false i (cell_at Kind.singles s.now p) worst }
 {
     let j = field::single_cell(s, p as usize);
     Held {
         worst: passed(worst, i, MAY, j.state),
-        value: MaybeReal {
+        value: Maybe {
             here: j.state == GOOD,
             value: j.figure,
         },
@@ -252,15 +253,15 @@ pub fn entries(s: &[u8], p: u16, i: u8, worst: u16) -> Held<Parts>
 }
 
 #[tactic(auto, using(crate::proofs::Worth::here_state), unfolding(crate::specs::Code::Held::held_as))]
-pub fn position(s: &[u8], p: u16, i: u8, worst: u16) -> Held<MaybePosition>
+pub fn position(s: &[u8], p: u16, i: u8, worst: u16) -> Held<Maybe<Position>>
     requires { i < 64 }
-    ensures { result ≡ held_as maybe_position false i (cell_at Kind.positions s.now p) worst }
+    ensures { result ≡ held_as (maybe_of position_in) false i (cell_at Kind.positions s.now p) worst }
 {
     let j = field::position_cell(s, p as usize);
     let value = j.position;
     Held {
         worst: passed(worst, i, MAY, j.state),
-        value: MaybePosition {
+        value: Maybe {
             here: j.state == GOOD,
             value: value,
         },
@@ -268,18 +269,20 @@ pub fn position(s: &[u8], p: u16, i: u8, worst: u16) -> Held<MaybePosition>
 }
 
 #[tactic(auto, using(crate::proofs::Worth::here_state), unfolding(crate::specs::Code::Held::held_as))]
-pub fn version(s: &[u8], p: u16, must: bool, i: u8, worst: u16) -> Held<MaybeVersion>
+pub fn version(s: &[u8], p: u16, must: bool, i: u8, worst: u16) -> Held<Maybe<Version>>
     requires { i < 64 }
-    ensures { result ≡ held_as maybe_version must i (cell_at Kind.versions s.now p) worst }
+    ensures { result ≡ held_as (maybe_of version_in) must i (cell_at Kind.versions s.now p) worst }
 {
     let j = field::version_cell(s, p as usize);
     Held {
         worst: passed(worst, i, must, j.state),
-        value: MaybeVersion {
+        value: Maybe {
             here: j.state == GOOD,
-            major: j.major,
-            minor: j.minor,
-            patch: j.patch,
+            value: Version {
+                major: j.major,
+                minor: j.minor,
+                patch: j.patch,
+            },
         },
     }
 }

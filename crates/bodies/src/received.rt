@@ -36,8 +36,7 @@ fn packet(s: &[u8], at: &[u16; 64], worst: u16) -> Held<record::Packet>
             signal: message::Signal {
                 snr: e.value.value,
                 rssi: f.value.value,
-                eq_snr: g.value.value,
-                has_eq_snr: g.value.here,
+                eq_snr: g.value,
             },
             profile_len: profile.len,
             profile: profile.text,

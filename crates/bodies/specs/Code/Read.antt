@@ -5,9 +5,9 @@ use lib.{Dec.eqb, Dec.leb, ListN.get_or, ListN.drop}
 use Rattle.octets.specs.Choice.{either}
 use Rattle.names.specs.{Names.bytes, Names.downlink, Code.Slots.slot_of}
 use Rattle.field.specs.{Cell.Cell, Code.Into.read_into}
-use Rattle.message.specs.{Fields.Field, Fields.received, Fields.downlink_fields, Fields.fields_of, Record.maybe_mark, Code.Cells.cells_at}
+use Rattle.message.specs.{Fields.Field, Fields.received, Fields.downlink_fields, Fields.fields_of, Record.mark_in, Record.maybe_of, Code.Cells.cells_at}
 use Rattle.message.specs.Reading.{graded, gravest, look_in, crossed}
-use Rattle.message.specs.declared.MaybeMark.{MaybeMark}
+use Rattle.message.specs.declared.Maybe.{Maybe}
 use Rattle.record.specs.Record.{packet_of, body_of, message_of}
 use Rattle.record.specs.declared.{Body.Body, Packet.Packet}
 use Rattle.bodies.specs.declared.{Held.Held, Parts.Parts, Marks.Marks, Graded.Graded}
@@ -52,10 +52,10 @@ module _ (s at : List ℕ) where
   flags_as w = record {
     worst = gravest w 9 flag_fields (cells_at flag_fields s at);
     value = record {
-      response_exp = maybe_mark (look_for downlink (bytes "responseExp"));
-      response_prio = maybe_mark (look_for downlink (bytes "responsePrio"));
-      dl_wind_req = maybe_mark (look_for downlink (bytes "dlWindReq"));
-      exp_only = maybe_mark (look_for downlink (bytes "expOnly"));
+      response_exp = maybe_of mark_in (look_for downlink (bytes "responseExp"));
+      response_prio = maybe_of mark_in (look_for downlink (bytes "responsePrio"));
+      dl_wind_req = maybe_of mark_in (look_for downlink (bytes "dlWindReq"));
+      exp_only = maybe_of mark_in (look_for downlink (bytes "expOnly"));
     };
   }
 
@@ -79,7 +79,7 @@ unfoldable pub agree_by : Bool → Parts → Parts → Bool
 agree_by depends cs es =
     either depends (λ _. eqb cs.state 0 && (eqb cs.count es.count && leb 1 es.count)) (λ _. not (eqb cs.state 0) && eqb es.count 1)
 
-unfoldable pub miscounted_by : MaybeMark → Parts → Parts → ℕ
+unfoldable pub miscounted_by : Maybe Bool → Parts → Parts → ℕ
 miscounted_by depends cs es =
     either (depends.here && ((eqb cs.state 0 || eqb cs.state 2) && (eqb es.state 0 && not (agree_by depends.value cs es)))) (λ _. graded 1 5) (λ _. 0)
 
