@@ -1,6 +1,6 @@
 -- Each command's fields one after the other are its list: each law in the shape of a need of the code. Assumes nothing.
 use mathlib.Core.{Path.◌≡◌, List.List}
-use mathlib.Core.Bool.{true, false}
+use mathlib.Core.Bool.{Bool, true, false}
 use Prim.Native.Nat.{ℕ, suc, ◌+◌, max}
 use native.Mathlib.Omega.{arith}
 use lib.{IntN.ℤ, Ieee.Float, ListN.get_or}
