@@ -11,7 +11,7 @@ use crate::bytes::{same_sixteen, sixteen_at};
 use crate::reply::con_rsp;
 use crate::stored::begin_anew;
 use crate::{Answer, done, happened, lies, refused};
-use message::MaybeId;
+use message::Maybe;
 use octets::refusals;
 use record::{Body, Con, Message};
 use writer::Written;
@@ -47,7 +47,7 @@ fn takes_con(d: &mut [u8], id: i64, x: Con, sc_eui: u64, uuid: &[u8], room: &mut
     if id != 0 {
         return refused(refusals::ID_OUT_OF_ORDER);
     }
-    if (x.version.major != 1) | (x.version.minor != 0) {
+    if (x.version.value.major != 1) | (x.version.value.minor != 0) {
         return refused(refusals::VERSION);
     }
     if resumes(d, x) {
@@ -72,7 +72,7 @@ fn resumes(d: &[u8], x: Con) -> bool
 }
 
 // An snBsOpId if present is at most the highest station ID known.
-fn station_known(d: &[u8], id: MaybeId) -> bool
+fn station_known(d: &[u8], id: Maybe<i64>) -> bool
     requires { Lies d.now }
     ensures { result ≡ (not id.here || not (is_below (highest_of (session_at d.now)) id.value)) }
 {
@@ -80,7 +80,7 @@ fn station_known(d: &[u8], id: MaybeId) -> bool
 }
 
 // An snScOpId if present is at least the lowest centre ID issued.
-fn centre_known(d: &[u8], id: MaybeId) -> bool
+fn centre_known(d: &[u8], id: Maybe<i64>) -> bool
     requires { Lies d.now }
     ensures { result ≡ (not id.here || not (is_below id.value (lowest_of (session_at d.now)))) }
 {

@@ -74,26 +74,8 @@ fn weight(room: &mut [u8], at: usize, format: u8, prior: bool, prio: f64) -> usi
 fn wishes(room: &mut [u8], at: usize, x: DlDataQue) -> usize
     ensures { ◌≡◌ {A = Put} (put room.new result) (put_parts (wishes_parts x) (put room.old at)) }
 {
-    let a = pair::maybe_mark(
-        room,
-        at,
-        b"\xABresponseExp",
-        x.response_exp.here,
-        x.response_exp.value,
-    );
-    let b = pair::maybe_mark(
-        room,
-        a,
-        b"\xACresponsePrio",
-        x.response_prio.here,
-        x.response_prio.value,
-    );
-    let c = pair::maybe_mark(
-        room,
-        b,
-        b"\xA9dlWindReq",
-        x.dl_wind_req.here,
-        x.dl_wind_req.value,
-    );
-    pair::maybe_mark(room, c, b"\xA7expOnly", x.exp_only.here, x.exp_only.value)
+    let a = pair::maybe_mark(room, at, b"\xABresponseExp", x.response_exp);
+    let b = pair::maybe_mark(room, a, b"\xACresponsePrio", x.response_prio);
+    let c = pair::maybe_mark(room, b, b"\xA9dlWindReq", x.dl_wind_req);
+    pair::maybe_mark(room, c, b"\xA7expOnly", x.exp_only)
 }

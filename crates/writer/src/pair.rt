@@ -7,6 +7,8 @@ ghost use Rattle.forms.specs.Code.Put.{Put, put, put_parts, whole_parts, real_pa
 ghost use Rattle.record.specs.Says.{sixteen_bytes};
 ghost use Rattle.writer.specs.Code.Parts.{text, pair_part, id_part, position_part, version_part};
 
+use field::Position;
+use message::{Maybe, Version};
 use record::Sixteen;
 
 pub fn word(room: &mut [u8], at: usize, here: bool, key: &[u8], x: u64) -> usize
@@ -19,7 +21,7 @@ pub fn word(room: &mut [u8], at: usize, here: bool, key: &[u8], x: u64) -> usize
     forms::put_word(room, next, x)
 }
 
-pub fn id(room: &mut [u8], at: usize, key: &[u8], x: message::MaybeId) -> usize
+pub fn id(room: &mut [u8], at: usize, key: &[u8], x: Maybe<i64>) -> usize
     ensures { ◌≡◌ {A = Put} (put room.new result) (put_parts (id_part key.now x) (put room.old at)) }
 {
     if !x.here {
@@ -43,14 +45,14 @@ pub fn mark(room: &mut [u8], at: usize, key: &[u8], x: bool) -> usize
     forms::put_mark(room, next, x)
 }
 
-pub fn maybe_mark(room: &mut [u8], at: usize, key: &[u8], here: bool, x: bool) -> usize
-    ensures { ◌≡◌ {A = Put} (put room.new result) (put_parts (pair_part here key.now (mark_parts x)) (put room.old at)) }
+pub fn maybe_mark(room: &mut [u8], at: usize, key: &[u8], x: Maybe<bool>) -> usize
+    ensures { ◌≡◌ {A = Put} (put room.new result) (put_parts (pair_part x.here key.now (mark_parts x.value)) (put room.old at)) }
 {
-    if !here {
+    if !x.here {
         return at;
     }
     let next = forms::put_run(room, at, key);
-    forms::put_mark(room, next, x)
+    forms::put_mark(room, next, x.value)
 }
 
 pub fn real(room: &mut [u8], at: usize, here: bool, key: &[u8], x: f64) -> usize
@@ -100,7 +102,7 @@ pub fn text(room: &mut [u8], at: usize, key: &[u8], d: &[u8], n: u8) -> usize
     forms::put_text(room, next, d, n)
 }
 
-pub fn position(room: &mut [u8], at: usize, key: &[u8], x: message::MaybePosition) -> usize
+pub fn position(room: &mut [u8], at: usize, key: &[u8], x: Maybe<Position>) -> usize
     ensures { ◌≡◌ {A = Put} (put room.new result) (put_parts (position_part key.now x) (put room.old at)) }
 {
     if !x.here {
@@ -116,14 +118,14 @@ pub fn position(room: &mut [u8], at: usize, key: &[u8], x: message::MaybePositio
     )
 }
 
-pub fn version(room: &mut [u8], at: usize, key: &[u8], x: message::MaybeVersion) -> usize
+pub fn version(room: &mut [u8], at: usize, key: &[u8], x: Maybe<Version>) -> usize
     ensures { ◌≡◌ {A = Put} (put room.new result) (put_parts (version_part key.now x) (put room.old at)) }
 {
     if !x.here {
         return at;
     }
     let next = forms::put_run(room, at, key);
-    forms::put_version(room, next, x.major, x.minor, x.patch)
+    forms::put_version(room, next, x.value.major, x.value.minor, x.value.patch)
 }
 
 pub fn four(room: &mut [u8], at: usize, key: &[u8], x: u32) -> usize

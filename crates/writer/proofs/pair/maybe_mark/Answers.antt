@@ -3,8 +3,8 @@ use borrow.Author.Rules.{rules}
 use Rattle.std.proofs.Common.{rules}
 use Rattle.writer.proofs.pair.maybe_mark.Goals as goal
 
-pub returns-then-not-here : goal.returns-then-not-here
-returns-then-not-here c = search (pairs, rules)
+pub returns-then-not-x : goal.returns-then-not-x
+returns-then-not-x c = search (pairs, rules)
 
 pub returns : goal.returns
 returns c = search (pairs, rules)
