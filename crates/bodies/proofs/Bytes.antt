@@ -4,64 +4,78 @@ use mathlib.Core.Path.{◌≡◌, refl, sym, ap, ◌∙◌}
 use mathlib.Core.Bool.{Bool, true, false, ◌&&◌, not}
 use mathlib.Core.List.{List, [], ◌++◌, append-nil}
 use mathlib.Core.Option.{Option, some, none}
-use Prim.Native.Nat.{ℕ, zero, suc, ◌+◌, ◌-◌, ◌%◌, ◌≤◌}
+use Prim.Native.Nat.{ℕ, zero, suc, ◌+◌, ◌-◌, ◌≤◌}
 use native.Mathlib.Nat.{zero-add, sub-zero}
 use native.Mathlib.Omega.{arith}
 use lib.Dec.{eqb, leb, lit≤}
 use lib.ListN.{length, drop, replicate, length-replicate}
 use borrow.Author.Tests.{leb-true, leb-false, le-leb, eq-eqb, ne_eqb}
+use Rattle.octets.proofs.Ranges.{true_false}
 use Rattle.octets.specs.{Choice.either, Number.big_at, Number.if_there, Bytes.put_at}
 use Rattle.element.specs.Meaning.{Elements}
-use Rattle.field.specs.declared.Judged.{Judged}
+use Rattle.std.specs.Prelude.{Option as Answer, Some, None, Result, is_some, is_ok}
+use Rattle.std.specs.Result.{result_err, result_unwrap_or}
+use Rattle.field.specs.declared.Flaw.{Flaw, TheVariants.Invalid}
 use Rattle.field.specs.Kind.{Kind, Value, bytes16, bytes4, profile_text}
 use Rattle.field.specs.Judge.{when, on_some, parts_of, octets_in, string_sized, judge}
-use Rattle.field.specs.{Cell.Cell, Cell.judged, Code.Told.cell_state, Code.Told.told_of, Code.At.shallow_at, Code.At.seen_at, Code.At.cell_at, Code.At.string_filled}
+use Rattle.field.specs.{Cell.Cell, Cell.judged, Cell.here, Cell.word_of, Code.Told.told_of, Code.At.shallow_at, Code.At.seen_at, Code.At.cell_at, Code.At.string_filled}
 use Rattle.field.specs.{Code.Into.read_into}
 use Rattle.field.proofs.Intos.{into_good}
-use Rattle.message.specs.Record.{word_in, string_of}
+use Rattle.message.specs.Record.{string_of}
 use Rattle.record.specs.declared.Sixteen.{Sixteen}
-use Rattle.record.specs.Record.{bytes_in, four_of, sixteen_of, sixteen_in}
+use Rattle.record.specs.Record.{bytes_in, four_of, four_in, sixteen_of, sixteen_in}
 use Rattle.record.proofs.Packed.{sixteen_padded}
-use Rattle.bodies.specs.Code.Held.{judged_as, exactly, four_if, sixteen_if, four_as, sixteen_as, profile_as}
+use Rattle.bodies.specs.Code.Held.{flaw_of, judged_as, held_as, profile_in, exactly, four_if, sixteen_if}
+use Rattle.bodies.proofs.Readers.{judged_told, here_told, value_told}
 use Rattle.bodies.proofs.Values.{IsString, arrays_are, texts_are, arrays_more, texts_put}
-use Rattle.bodies.proofs.Worth.{Most, worth, low_word}
 
--- how an array of at most n bytes stands says how one of exactly n does
-exact_sized : (n : ℕ) (d : List ℕ) → exactly (cell_state (judged (string_sized 0 n d))) (word_in (judged (string_sized 0 n d))) n ≡ cell_state (judged (string_sized n n d))
+-- what is told of an array of at most n bytes says why one of exactly n has no value
+exact_sized : (n : ℕ) (d : List ℕ) → exactly (told_of word_of (judged (string_sized 0 n d))) n ≡ flaw_of (judged (string_sized n n d))
 unfolding exactly
 exact_sized n d = simp (le-leb 0 (length d) (omega arith)) (go (leb (length d) n) refl)
   where
-    same : (b : Bool) → leb n (length d) ≡ b → leb (length d) n ≡ true → either (not (eqb (length d) n)) (λ _. 1) (λ _. 0) ≡ cell_state (judged (when (b && true) (Value.string d)))
+    same : (b : Bool) → leb n (length d) ≡ b → leb (length d) n ≡ true → either (eqb (length d) n) (λ _. None) (λ _. Some Invalid) ≡ flaw_of (judged (when (b && true) (Value.string d)))
     same true e l = simp (eq-eqb (length d) n (omega (arith, leb-true n (length d) e, leb-true (length d) n l)))
     same false e l = simp (ne_eqb (length d) n (λ q. omega (arith, leb-false n (length d) e)))
 
-    go : (b : Bool) → leb (length d) n ≡ b
-        → either (eqb (cell_state (judged (when b (Value.string d)))) 0 && not (eqb (word_in (judged (when b (Value.string d)))) n)) (λ _. 1) (λ _. cell_state (judged (when b (Value.string d))))
-        ≡ cell_state (judged (when (leb n (length d) && b) (Value.string d)))
+    go : (b : Bool) → leb (length d) n ≡ b → exactly (told_of word_of (judged (when b (Value.string d)))) n ≡ flaw_of (judged (when (leb n (length d) && b) (Value.string d)))
     go true l = same (leb n (length d)) refl l
     go false l = short (leb n (length d))
       where
-        short : (c : Bool) → ◌≡◌ {A = ℕ} 1 (cell_state (judged (when (c && false) (Value.string d))))
+        short : (c : Bool) → Some Invalid ≡ flaw_of (judged (when (c && false) (Value.string d)))
         short true = refl
         short false = refl
 
-exact_octets : (n : ℕ) (o : Option (List ℕ)) → exactly (cell_state (judged (on_some o (string_sized 0 n)))) (word_in (judged (on_some o (string_sized 0 n)))) n ≡ cell_state (judged (on_some o (string_sized n n)))
+exact_octets : (n : ℕ) (o : Option (List ℕ)) → exactly (told_of word_of (judged (on_some o (string_sized 0 n)))) n ≡ flaw_of (judged (on_some o (string_sized n n)))
 unfolding exactly
 exact_octets n none = refl
 exact_octets n (some d) = exact_sized n d
 
 exact_parts : (n : ℕ) (o : Option Elements)
-    → exactly (cell_state (judged (on_some o (λ es. on_some (octets_in es) (string_sized 0 n))))) (word_in (judged (on_some o (λ es. on_some (octets_in es) (string_sized 0 n))))) n
-    ≡ cell_state (judged (on_some o (λ es. on_some (octets_in es) (string_sized n n))))
+    → exactly (told_of word_of (judged (on_some o (λ es. on_some (octets_in es) (string_sized 0 n))))) n ≡ flaw_of (judged (on_some o (λ es. on_some (octets_in es) (string_sized n n))))
 unfolding exactly
 exact_parts n none = refl
 exact_parts n (some es) = exact_octets n (octets_in es)
 
-pub exact_state : (n : ℕ) (s : List ℕ) (p : ℕ) → exactly (cell_state (cell_at (Kind.arrays 0 n) s p)) (word_in (cell_at (Kind.arrays 0 n) s p)) n ≡ cell_state (cell_at (Kind.arrays n n) s p)
+pub exact_flaw : (n : ℕ) (s : List ℕ) (p : ℕ) → exactly (told_of word_of (cell_at (Kind.arrays 0 n) s p)) n ≡ flaw_of (cell_at (Kind.arrays n n) s p)
 unfolding cell_at judge exactly
-exact_state n s zero = refl
-exact_state n s (suc zero) = refl
-exact_state n s (suc (suc p)) = exact_parts n (parts_of (shallow_at s (suc (suc p))))
+exact_flaw n s zero = refl
+exact_flaw n s (suc zero) = refl
+exact_flaw n s (suc (suc p)) = exact_parts n (parts_of (shallow_at s (suc (suc p))))
+
+-- none is there exactly where the cell has a value
+none_here : (c : Cell) (o : Answer Flaw) → o ≡ flaw_of c → (b : Bool) → is_some o ≡ not b → b ≡ here c
+none_here c o e b q = go c b (sym (ap is_some e) ∙ q)
+  where
+    go : (c : Cell) (b : Bool) → is_some (flaw_of c) ≡ not b → b ≡ here c
+    go Cell.missing true z = true_false z
+    go Cell.missing false z = refl
+    go Cell.double true z = true_false z
+    go Cell.double false z = refl
+    go Cell.bad true z = true_false z
+    go Cell.bad false z = refl
+    go (Cell.good v) true z = refl
+    go (Cell.good v) false z = true_false (sym z)
 
 -- a room of zeros
 drop_repeat : (x k n : ℕ) → drop k (replicate n x) ≡ replicate (n - k) x
@@ -92,7 +106,7 @@ read_full n s v p j =
 -- what is made of them: by f of the room where the field is good, else by f of no bytes
 module _ {A : Type 0} (f : List ℕ → A) where
   abbrev pub if_good : Cell → List ℕ → A
-  if_good c room = either (eqb (cell_state c) 0) (λ _. f room) (λ _. f [])
+  if_good c room = either (here c) (λ _. f room) (λ _. f [])
 
   pub exact_bytes : (n : ℕ) (s : List ℕ) (p : ℕ) → if_good (cell_at (Kind.arrays n n) s p) (read_into s p (replicate n 0)) ≡ f (bytes_in (cell_at (Kind.arrays n n) s p))
   unfolding cell_at
@@ -123,22 +137,6 @@ text_bytes lo s (suc (suc p)) = go (judge (Kind.texts lo 16) (shallow_at s (suc 
         ap sixteen_of (texts_put (shallow_at s (suc (suc p))) v lo 16 e (replicate 16 0))
         ∙ padded lo v (texts_are (shallow_at s (suc (suc p))) v lo 16 e)
 
--- each law in the shape of a need of the code
-module _ (state len n : ℕ) where
-  pub exact_not : (state ≡ 0 → ⊥) → state ≡ exactly state len n
-  unfolding exactly
-  exact_not h = sym (simp (ne_eqb state 0 h))
-
-  pub exact_good : state ≡ 0 → len ≡ n → 0 ≡ exactly state len n
-  unfolding exactly
-  exact_good h e = sym (simp (h, eq-eqb len n e))
-
-  pub exact_bad : state ≡ 0 → (len ≡ n → ⊥) → 1 ≡ exactly state len n
-  unfolding exactly
-  exact_bad h e = sym (simp (h, ne_eqb len n e))
-
-pub ruleset exacts = (exact_not, exact_good, exact_bad)
-
 there : (a : List ℕ) (at n x : ℕ) → n ≤ 8 → at + n ≤ length a → if_there a at n x ≡ x
 there a at n x h l = simp (le-leb n 8 h, le-leb (at + n) (length a) l)
 
@@ -166,43 +164,41 @@ module _ (a : List ℕ) (good : Bool) where
 
 pub ruleset numbers = (halves_are, no_halves, quarter_is, no_quarter)
 
-module _ (s a : List ℕ) (p i w r : ℕ) (j : Judged) (state : ℕ) where
-  module _ (n : ℕ) (e : j ≡ told_of (cell_at (Kind.arrays 0 n) s p)) (q : state ≡ exactly j.state j.word n) where
-    state_is : state ≡ cell_state (cell_at (Kind.arrays n n) s p)
-    state_is = q ∙ (ap (λ (x : Judged). exactly x.state x.word n) e ∙ exact_state n s p)
+module _ (s a : List ℕ) (p i w r : ℕ) (j : Result ℕ Flaw) (flaw : Answer Flaw) where
+  module _ (n : ℕ) (e : j ≡ told_of word_of (cell_at (Kind.arrays 0 n) s p)) (q : flaw ≡ exactly j n) where
+    flaw_is : flaw ≡ flaw_of (cell_at (Kind.arrays n n) s p)
+    flaw_is = q ∙ (ap (λ (x : Result ℕ Flaw). exactly x n) e ∙ exact_flaw n s p)
 
-    made_is : {A : Type 0} (f : List ℕ → A) (v : A) → a ≡ read_into s p (replicate n 0) → v ≡ either (eqb state 0) (λ _. f a) (λ _. f []) → v ≡ f (bytes_in (cell_at (Kind.arrays n n) s p))
-    made_is f v b h =
-        h ∙ (ap (λ (x : ℕ). either (eqb x 0) (λ _. f a) (λ _. f [])) state_is
+    made_is : {A : Type 0} (f : List ℕ → A) (v : A) (t : Bool) → is_some flaw ≡ not t → a ≡ read_into s p (replicate n 0) → v ≡ either t (λ _. f a) (λ _. f []) → v ≡ f (bytes_in (cell_at (Kind.arrays n n) s p))
+    made_is f v t u b h =
+        h ∙ (ap (λ (x : Bool). either x (λ _. f a) (λ _. f [])) (none_here (cell_at (Kind.arrays n n) s p) flaw flaw_is t u)
         ∙ (ap (if_good f (cell_at (Kind.arrays n n) s p)) b ∙ exact_bytes f n s p))
 
-  module _ (g : (d : Cell) → state ≡ cell_state d → r ≡ judged_as true i d w) where
-    pub sixteen_is : j ≡ told_of (cell_at (Kind.arrays 0 16) s p) → state ≡ exactly j.state j.word 16 → a ≡ read_into s p (replicate 16 0)
-        → (v : Sixteen) → v ≡ sixteen_if (eqb state 0) a → record { worst = r; value = v } ≡ sixteen_as i (cell_at bytes16 s p) w
-    unfolding sixteen_as sixteen_if
-    sixteen_is e q b v h =
-        let x = g (cell_at bytes16 s p) (state_is 16 e q) in
-        let y = made_is 16 e q sixteen_of v b h in
+  module _ (g : (d : Cell) → flaw ≡ flaw_of d → r ≡ judged_as true i d w) where
+    pub sixteen_is : j ≡ told_of word_of (cell_at (Kind.arrays 0 16) s p) → flaw ≡ exactly j 16 → a ≡ read_into s p (replicate 16 0)
+        → (t : Bool) → is_some flaw ≡ not t → (v : Sixteen) → v ≡ sixteen_if t a → record { worst = r; value = v } ≡ held_as sixteen_in true i (cell_at bytes16 s p) w
+    unfolding held_as sixteen_if
+    sixteen_is e q b t u v h =
+        let x = g (cell_at bytes16 s p) (flaw_is 16 e q) in
+        let y = made_is 16 e q sixteen_of v t u b h in
         cc
 
-    pub four_is : j ≡ told_of (cell_at (Kind.arrays 0 4) s p) → state ≡ exactly j.state j.word 4 → a ≡ read_into s p (replicate 4 0)
-        → (v : ℕ) → v ≡ four_if (eqb state 0) a → record { worst = r; value = v } ≡ four_as i (cell_at bytes4 s p) w
-    unfolding four_as four_if
-    four_is e q b v h =
-        let x = g (cell_at bytes4 s p) (state_is 4 e q) in
-        let y = made_is 4 e q four_of v b h in
+    pub four_is : j ≡ told_of word_of (cell_at (Kind.arrays 0 4) s p) → flaw ≡ exactly j 4 → a ≡ read_into s p (replicate 4 0)
+        → (t : Bool) → is_some flaw ≡ not t → (v : ℕ) → v ≡ four_if t a → record { worst = r; value = v } ≡ held_as four_in true i (cell_at bytes4 s p) w
+    unfolding held_as four_if
+    four_is e q b t u v h =
+        let x = g (cell_at bytes4 s p) (flaw_is 4 e q) in
+        let y = made_is 4 e q four_of v t u b h in
         cc
 
-pub profile_is : (s a : List ℕ) (p i w r : ℕ) (j : Judged) → ((d : Cell) → j.state ≡ cell_state d → r ≡ judged_as false i d w) → j ≡ told_of (cell_at profile_text s p)
-    → a ≡ string_filled (judge (Kind.texts 0 16) (shallow_at s p)) (replicate 16 0)
-    → (v : Sixteen) → v ≡ sixteen_if (eqb j.state 0) a → record { worst = r; len = j.word % 256; value = v } ≡ profile_as i (cell_at profile_text s p) w
-unfolding profile_as sixteen_if
-profile_is s a p i w r j g e b v h =
+pub profile_is : (s a : List ℕ) (p i w r : ℕ) (j : Result ℕ Flaw) → j ≡ told_of word_of (cell_at profile_text s p) → (o : Answer Flaw) → o ≡ result_err j → ((d : Cell) → o ≡ flaw_of d → r ≡ judged_as false i d w)
+    → (n : ℕ) → n ≡ result_unwrap_or j 0 → (b : Bool) → b ≡ is_ok j → a ≡ string_filled (judge (Kind.texts 0 16) (shallow_at s p)) (replicate 16 0)
+    → (v : Sixteen) → v ≡ sixteen_if b a → record { worst = r; value = record { len = n; text = v } } ≡ held_as profile_in false i (cell_at profile_text s p) w
+unfolding held_as sixteen_if
+profile_is s a p i w r j e o q g n l b k f v h =
     let c = cell_at profile_text s p in
-    let x : r ≡ judged_as false i c w = g c (ap (λ (y : Judged). y.state) e) in
-    let l : j.word % 256 ≡ word_in c = ap (λ (y : Judged). y.word % 256) e ∙ low_word profile_text 8 16 (Most.text 1 16) (omega arith) c (worth profile_text s p) in
+    let x = judged_told word_of c j e false i w r o q g in
+    let y = value_told word_of c j e n l in
     let z : v ≡ sixteen_in c =
-    h ∙ (ap (λ (y : Judged). either (eqb y.state 0) (λ _. sixteen_of a) (λ _. sixteen_of [])) e ∙ (ap (if_good sixteen_of c) b ∙ text_bytes 1 s p)) in
+    h ∙ (ap (λ (y : Bool). either y (λ _. sixteen_of a) (λ _. sixteen_of [])) (here_told word_of c j e b k) ∙ (ap (if_good sixteen_of c) f ∙ text_bytes 1 s p)) in
     cc
-
-pub ruleset strings = (sixteen_is, four_is, profile_is)

@@ -1,23 +1,27 @@
 -- Each command's fields one after the other are its list: each law in the shape of a need of the code. Assumes nothing.
-use mathlib.Core.{Path.◌≡◌, Path.sym, Path.◌∙◌, List.List}
-use mathlib.Core.Bool.{Bool, true, false, ◌&&◌, not}
+use mathlib.Core.{Path.◌≡◌, List.List}
+use mathlib.Core.Bool.{true, false}
 use Prim.Native.Nat.{ℕ, suc, ◌+◌, max}
 use native.Mathlib.Omega.{arith}
-use lib.ListN.{get_or}
+use lib.{IntN.ℤ, ListN.get_or}
 use mir.Syntax.{w32}
 use mir.Val.{SFits, of_z, to_z}
 use mir.ValLaws.{to_z-of_z}
 use Rattle.names.specs.{Names.place_in, Code.Slots.keys, Code.Slots.slot_of}
 use Rattle.field.specs.Kind.{Kind, unsigned64, unsigned32, unsigned16, unsigned8, signed32, station_id, centre_id, bytes16, bytes4, user_bytes, profile_text, status_text}
 use Rattle.field.specs.{Cell.Cell, Cell.here, Code.At.cell_at, Code.Into.read_into}
-use Rattle.message.specs.{Fields.described, Fields.lists, Fields.list_in, Record.mark_in, Code.Cells.cells_at}
-use Rattle.message.specs.Reading.{graded, gravest, look_in, place_among}
-use Rattle.record.specs.declared.Body.{Body}
-use Rattle.record.specs.Record.{body_in}
-use Rattle.bodies.specs.declared.{HeldWord.HeldWord, HeldId.HeldId, HeldMark.HeldMark, HeldPosition.HeldPosition, HeldVersion.HeldVersion}
-use Rattle.bodies.specs.declared.{HeldSixteen.HeldSixteen, HeldCode.HeldCode, HeldOctet.HeldOctet, HeldReal.HeldReal, HeldCount.HeldCount}
-use Rattle.bodies.specs.declared.{HeldShort.HeldShort, HeldProfile.HeldProfile, HeldFour.HeldFour, HeldPacket.HeldPacket, Bodied.Bodied}
-use Rattle.bodies.specs.Code.Held.{judged_as, word_as, count_as, short_as, octet_as, id_as, code_as, mark_as, real_as, position_as, version_as, four_as, sixteen_as, profile_as}
+use Rattle.message.specs.{Fields.described, Fields.lists, Fields.list_in, Code.Cells.cells_at}
+use Rattle.message.specs.Record.{word_in, id_in, mark_in}
+use Rattle.message.specs.Record.{figure_in, maybe_of, position_in, version_in}
+use Rattle.message.specs.declared.{Maybe.Maybe, Version.Version}
+use Rattle.field.specs.declared.Position.{Position}
+use lib.Ieee.{Float}
+use mathlib.Core.Bool.{Bool}
+use Rattle.message.specs.Reading.{gravest, look_in, place_among}
+use Rattle.record.specs.declared.{Sixteen.Sixteen, Packet.Packet, Body.Body}
+use Rattle.record.specs.Record.{four_in, sixteen_in, body_in}
+use Rattle.bodies.specs.declared.{Held.Held, Profile.Profile}
+use Rattle.bodies.specs.Code.Held.{judged_as, held_as, profile_in}
 use Rattle.bodies.specs.Code.Read.{plain_of, packet_as, Bodying, bodying, crossed_by, bodied_of}
 
 no_more : (x : ℕ) → max x 0 ≡ x
@@ -38,49 +42,49 @@ module _ (s at : List ℕ) where
       let i4 : i + 4 ≡ suc (suc (suc (suc i))) = omega arith in
       rw (z, y, x, q, p, i1, i2, i3, i4)
 
-  pub con_is : (w : ℕ) (a : HeldVersion) (b : HeldWord) (c : HeldMark) (d : HeldPosition) (e : HeldSixteen) (f g : HeldId) (x : ℕ)
-      → a ≡ version_as true 2 (on Kind.versions 2) w → b ≡ word_as true 3 (on unsigned64 3) a.worst → c ≡ mark_as true 4 (on Kind.flags 4) b.worst
-      → d ≡ position_as 5 (on Kind.positions 5) c.worst → e ≡ sixteen_as 6 (on bytes16 6) d.worst → f ≡ id_as false 7 (on station_id 7) e.worst
-      → g ≡ id_as false 8 (on centre_id 8) f.worst → x ≡ gravest g.worst 9 described (cells_at described s at)
-      → ◌≡◌ {A = Bodied}
+  pub con_is : (w : ℕ) (a : Held (Maybe Version)) (b : Held (Maybe ℕ)) (c : Held (Maybe Bool)) (d : Held (Maybe Position)) (e : Held Sixteen) (f g : Held (Maybe ℤ)) (x : ℕ)
+      → a ≡ held_as (maybe_of version_in) true 2 (on Kind.versions 2) w → b ≡ held_as (maybe_of word_in) true 3 (on unsigned64 3) a.worst → c ≡ held_as (maybe_of mark_in) true 4 (on Kind.flags 4) b.worst
+      → d ≡ held_as (maybe_of position_in) false 5 (on Kind.positions 5) c.worst → e ≡ held_as sixteen_in true 6 (on bytes16 6) d.worst → f ≡ held_as (maybe_of id_in) false 7 (on station_id 7) e.worst
+      → g ≡ held_as (maybe_of id_in) false 8 (on centre_id 8) f.worst → x ≡ gravest g.worst 9 described (cells_at described s at)
+      → ◌≡◌ {A = Held Body}
       (record {
         worst = x;
-        body = Body.Con (record { version = a.value; bs_eui = b.value.value; bidi = c.value.value; geo_location = d.value; sn_bs_uuid = e.value; sn_bs_op_id = f.value; sn_sc_op_id = g.value });
+        value = Body.Con (record { version = a.value; bs_eui = b.value.value; bidi = c.value.value; geo_location = d.value; sn_bs_uuid = e.value; sn_bs_op_id = f.value; sn_sc_op_id = g.value });
       })
       (plain_of s at 0 w)
-  unfolding plain_of judged_as version_as word_as mark_as position_as sixteen_as id_as gravest cells_at lists list_in look_in body_in slot_of place_in keys
+  unfolding plain_of judged_as held_as gravest cells_at lists list_in look_in body_in slot_of place_in keys
   con_is w a b c d e f g x pa pb pc pd pe pf pg px = rw (px, pg, pf, pe, pd, pc, pb, pa)
 
-  pub con_rsp_is : (w : ℕ) (a : HeldVersion) (b : HeldWord) (c : HeldMark) (d : HeldSixteen) (x : ℕ)
-      → a ≡ version_as false 2 (on Kind.versions 2) w → b ≡ word_as true 3 (on unsigned64 14) a.worst → c ≡ mark_as true 4 (on Kind.flags 15) b.worst
-      → d ≡ sixteen_as 5 (on bytes16 16) c.worst → x ≡ gravest d.worst 6 described (cells_at described s at)
-      → ◌≡◌ {A = Bodied}
-      (record { worst = x; body = Body.ConRsp (record { version = a.value; sc_eui = b.value.value; sn_resume = c.value.value; sn_sc_uuid = d.value }) })
+  pub con_rsp_is : (w : ℕ) (a : Held (Maybe Version)) (b : Held (Maybe ℕ)) (c : Held (Maybe Bool)) (d : Held Sixteen) (x : ℕ)
+      → a ≡ held_as (maybe_of version_in) false 2 (on Kind.versions 2) w → b ≡ held_as (maybe_of word_in) true 3 (on unsigned64 14) a.worst → c ≡ held_as (maybe_of mark_in) true 4 (on Kind.flags 15) b.worst
+      → d ≡ held_as sixteen_in true 5 (on bytes16 16) c.worst → x ≡ gravest d.worst 6 described (cells_at described s at)
+      → ◌≡◌ {A = Held Body}
+      (record { worst = x; value = Body.ConRsp (record { version = a.value; sc_eui = b.value.value; sn_resume = c.value.value; sn_sc_uuid = d.value }) })
       (plain_of s at 1 w)
-  unfolding plain_of judged_as version_as word_as mark_as sixteen_as gravest cells_at lists list_in look_in body_in slot_of place_in keys
+  unfolding plain_of judged_as held_as gravest cells_at lists list_in look_in body_in slot_of place_in keys
   con_rsp_is w a b c d x pa pb pc pd px = rw (px, pd, pc, pb, pa)
 
-  pub status_is : (w : ℕ) (a : HeldCode) (b : HeldOctet) (c : HeldWord) (d : HeldReal) (e : HeldPosition) (f : HeldWord) (g h i : HeldReal) (x : ℕ) → SFits w32 a.value
-      → a ≡ code_as 2 (on signed32 17) w → b ≡ octet_as true 3 (on status_text 18) a.worst → c ≡ word_as true 4 (on unsigned64 19) b.worst
-      → d ≡ real_as true 5 (on Kind.reals 20) c.worst → e ≡ position_as 6 (on Kind.positions 5) d.worst → f ≡ word_as false 7 (on unsigned64 21) e.worst
-      → g ≡ real_as false 8 (on Kind.reals 22) f.worst → h ≡ real_as false 9 (on Kind.reals 23) g.worst → i ≡ real_as false 10 (on Kind.reals 24) h.worst
+  pub status_is : (w : ℕ) (a : Held ℤ) (b : Held ℕ) (c : Held (Maybe ℕ)) (d : Held (Maybe Float)) (e : Held (Maybe Position)) (f : Held (Maybe ℕ)) (g h i : Held (Maybe Float)) (x : ℕ) → SFits w32 a.value
+      → a ≡ held_as id_in true 2 (on signed32 17) w → b ≡ held_as word_in true 3 (on status_text 18) a.worst → c ≡ held_as (maybe_of word_in) true 4 (on unsigned64 19) b.worst
+      → d ≡ held_as (maybe_of figure_in) true 5 (on Kind.reals 20) c.worst → e ≡ held_as (maybe_of position_in) false 6 (on Kind.positions 5) d.worst → f ≡ held_as (maybe_of word_in) false 7 (on unsigned64 21) e.worst
+      → g ≡ held_as (maybe_of figure_in) false 8 (on Kind.reals 22) f.worst → h ≡ held_as (maybe_of figure_in) false 9 (on Kind.reals 23) g.worst → i ≡ held_as (maybe_of figure_in) false 10 (on Kind.reals 24) h.worst
       → x ≡ judged_as false 11 (on Kind.maps 25) i.worst
-      → ◌≡◌ {A = Bodied}
+      → ◌≡◌ {A = Held Body}
       (record {
         worst = x;
-        body =
+        value =
             Body.StatusRsp
             (record { code = to_z w32 (of_z w32 a.value); message_len = b.value; time = c.value.value; duty_cycle = d.value.value; geo_location = e.value; uptime = f.value; temp = g.value; cpu_load = h.value; mem_load = i.value });
       })
       (plain_of s at 2 w)
-  unfolding plain_of judged_as code_as octet_as word_as real_as position_as gravest cells_at lists list_in look_in body_in slot_of place_in keys
+  unfolding plain_of judged_as held_as gravest cells_at lists list_in look_in body_in slot_of place_in keys
   status_is w a b c d e f g h i x fit pa pb pc pd pe pf pg ph pi px = rw (to_z-of_z w32 a.value fit, px, pi, ph, pg, pf, pe, pd, pc, pb, pa)
 
-  pub packet_is : (w : ℕ) (a b c : HeldWord) (d : HeldCount) (e f g : HeldReal) (h : HeldProfile)
-      → a ≡ word_as true 2 (on unsigned64 26) w → b ≡ word_as true 3 (on unsigned64 27) a.worst → c ≡ word_as false 4 (on unsigned64 28) b.worst
-      → d ≡ count_as 5 (on unsigned32 29) c.worst → e ≡ real_as true 6 (on Kind.reals 30) d.worst → f ≡ real_as true 7 (on Kind.reals 31) e.worst
-      → g ≡ real_as false 8 (on Kind.reals 32) f.worst → h ≡ profile_as 9 (on profile_text 33) g.worst
-      → ◌≡◌ {A = HeldPacket}
+  pub packet_is : (w : ℕ) (a b c : Held (Maybe ℕ)) (d : Held ℕ) (e f g : Held (Maybe Float)) (h : Held Profile)
+      → a ≡ held_as (maybe_of word_in) true 2 (on unsigned64 26) w → b ≡ held_as (maybe_of word_in) true 3 (on unsigned64 27) a.worst → c ≡ held_as (maybe_of word_in) false 4 (on unsigned64 28) b.worst
+      → d ≡ held_as word_in true 5 (on unsigned32 29) c.worst → e ≡ held_as (maybe_of figure_in) true 6 (on Kind.reals 30) d.worst → f ≡ held_as (maybe_of figure_in) true 7 (on Kind.reals 31) e.worst
+      → g ≡ held_as (maybe_of figure_in) false 8 (on Kind.reals 32) f.worst → h ≡ held_as profile_in false 9 (on profile_text 33) g.worst
+      → ◌≡◌ {A = Held Packet}
       (record {
         worst = h.worst;
         value = record {
@@ -88,64 +92,54 @@ module _ (s at : List ℕ) where
           rx_time = b.value.value;
           rx_duration = c.value;
           packet_cnt = d.value;
-          signal = record { snr = e.value.value; rssi = f.value.value; eq_snr = g.value.value; has_eq_snr = g.value.here };
-          profile_len = h.len;
-          profile = h.value;
+          signal = record { snr = e.value.value; rssi = f.value.value; eq_snr = g.value };
+          profile_len = h.value.len;
+          profile = h.value.text;
         };
       })
       (packet_as s at w)
-  unfolding packet_as judged_as word_as count_as real_as profile_as gravest cells_at lists list_in look_in slot_of place_in keys
+  unfolding packet_as judged_as held_as gravest cells_at lists list_in look_in slot_of place_in keys
   packet_is w a b c d e f g h pa pb pc pd pe pf pg ph = rw (ph, pg, pf, pe, pd, pc, pb, pa)
 
-  module _ (w : ℕ) (p : HeldPacket) (pp : p ≡ packet_as s at w) where
-    pub det_is : (a : HeldFour) (x : ℕ) → a ≡ four_as 10 (on bytes4 34) p.worst → x ≡ judged_as false 11 (on Kind.maps 35) a.worst
-        → ◌≡◌ {A = Bodied} (record { worst = x; body = Body.Det (record { packet = p.value; sign = a.value }) }) (plain_of s at 3 w)
-    unfolding plain_of packet_as judged_as four_as gravest cells_at lists list_in look_in body_in slot_of place_in keys
+  module _ (w : ℕ) (p : Held Packet) (pp : p ≡ packet_as s at w) where
+    pub det_is : (a : Held ℕ) (x : ℕ) → a ≡ held_as four_in true 10 (on bytes4 34) p.worst → x ≡ judged_as false 11 (on Kind.maps 35) a.worst
+        → ◌≡◌ {A = Held Body} (record { worst = x; value = Body.Det (record { packet = p.value; sign = a.value }) }) (plain_of s at 3 w)
+    unfolding plain_of packet_as judged_as held_as gravest cells_at lists list_in look_in body_in slot_of place_in keys
     det_is a x pa px = rw (px, pa, pp)
 
-    pub ul_data_is : (user room : List ℕ) (a b : HeldOctet) (c d e : HeldMark) (f g x y : ℕ)
-        → room ≡ read_into s (get_or at 43 0) user → a ≡ octet_as true 10 (on user_bytes 43) p.worst → b ≡ octet_as false 11 (on unsigned8 44) a.worst
-        → c ≡ mark_as true 12 (on Kind.flags 45) b.worst → d ≡ mark_as true 13 (on Kind.flags 46) c.worst → e ≡ mark_as true 14 (on Kind.flags 47) d.worst
+    pub ul_data_is : (user room : List ℕ) (a b : Held ℕ) (c d e : Held (Maybe Bool)) (f g x y : ℕ)
+        → room ≡ read_into s (get_or at 43 0) user → a ≡ held_as word_in true 10 (on user_bytes 43) p.worst → b ≡ held_as word_in false 11 (on unsigned8 44) a.worst
+        → c ≡ held_as (maybe_of mark_in) true 12 (on Kind.flags 45) b.worst → d ≡ held_as (maybe_of mark_in) true 13 (on Kind.flags 46) c.worst → e ≡ held_as (maybe_of mark_in) true 14 (on Kind.flags 47) d.worst
         → f ≡ judged_as false 15 (on Kind.words 48) e.worst → g ≡ judged_as false 16 (on Kind.maps 35) f → x ≡ crossed_by d.value.value c.value.here c.value.value → y ≡ max g x
         → ◌≡◌ {A = Bodying}
         (bodying
-        (record { worst = y; body = Body.UlData (record { packet = p.value; user_len = a.value; format = b.value; dl_open = c.value.value; response_exp = d.value.value; dl_ack = e.value.value }) })
+        (record { worst = y; value = Body.UlData (record { packet = p.value; user_len = a.value; format = b.value; dl_open = c.value.value; response_exp = d.value.value; dl_ack = e.value.value }) })
         room)
         (bodied_of s at 7 user w)
-    unfolding bodied_of plain_of packet_as judged_as octet_as mark_as crossed_by gravest cells_at lists list_in look_in place_among body_in slot_of place_in keys
+    unfolding bodied_of plain_of packet_as judged_as held_as crossed_by gravest cells_at lists list_in look_in place_among body_in slot_of place_in keys
     ul_data_is user room a b c d e f g x y pr pa pb pc pd pe pf pg px py =
         let o = on Kind.flags 45 in
         rw (py, px, pg, pf, pe, pd, pc, pb, pa, pp, pr, no_more (crossed_by (mark_in (on Kind.flags 46)) (here o) (mark_in o)))
 
-  pub det_rsp_is : (w : ℕ) (a : HeldFour) → a ≡ four_as 2 (on bytes4 34) w → ◌≡◌ {A = Bodied} (record { worst = a.worst; body = Body.DetRsp a.value }) (plain_of s at 4 w)
-  unfolding plain_of judged_as four_as gravest cells_at lists list_in look_in body_in slot_of place_in keys
+  pub det_rsp_is : (w : ℕ) (a : Held ℕ) → a ≡ held_as four_in true 2 (on bytes4 34) w → ◌≡◌ {A = Held Body} (record { worst = a.worst; value = Body.DetRsp a.value }) (plain_of s at 4 w)
+  unfolding plain_of judged_as held_as gravest cells_at lists list_in look_in body_in slot_of place_in keys
   det_rsp_is w a pa = rw pa
 
-  pub att_prp_is : (w : ℕ) (a : HeldWord) (b : HeldMark) (c : HeldSixteen) (d : HeldShort) (e : HeldCount) (f g h i : HeldMark)
-      → a ≡ word_as true 2 (on unsigned64 26) w → b ≡ mark_as true 3 (on Kind.flags 4) a.worst → c ≡ sixteen_as 4 (on bytes16 36) b.worst
-      → d ≡ short_as 5 (on unsigned16 37) c.worst → e ≡ count_as 6 (on unsigned32 38) d.worst → f ≡ mark_as true 7 (on Kind.flags 39) e.worst
-      → g ≡ mark_as true 8 (on Kind.flags 40) f.worst → h ≡ mark_as true 9 (on Kind.flags 41) g.worst → i ≡ mark_as true 10 (on Kind.flags 42) h.worst
-      → ◌≡◌ {A = Bodied}
+  pub att_prp_is : (w : ℕ) (a : Held (Maybe ℕ)) (b : Held (Maybe Bool)) (c : Held Sixteen) (d : Held ℕ) (e : Held ℕ) (f g h i : Held (Maybe Bool))
+      → a ≡ held_as (maybe_of word_in) true 2 (on unsigned64 26) w → b ≡ held_as (maybe_of mark_in) true 3 (on Kind.flags 4) a.worst → c ≡ held_as sixteen_in true 4 (on bytes16 36) b.worst
+      → d ≡ held_as word_in true 5 (on unsigned16 37) c.worst → e ≡ held_as word_in true 6 (on unsigned32 38) d.worst → f ≡ held_as (maybe_of mark_in) true 7 (on Kind.flags 39) e.worst
+      → g ≡ held_as (maybe_of mark_in) true 8 (on Kind.flags 40) f.worst → h ≡ held_as (maybe_of mark_in) true 9 (on Kind.flags 41) g.worst → i ≡ held_as (maybe_of mark_in) true 10 (on Kind.flags 42) h.worst
+      → ◌≡◌ {A = Held Body}
       (record {
         worst = i.worst;
-        body =
+        value =
             Body.AttPrp
             (record { ep_eui = a.value.value; bidi = b.value.value; nwk_sn_key = c.value; sh_addr = d.value; last_packet_cnt = e.value; dual_chan = f.value.value; repetition = g.value.value; wide_carr_off = h.value.value; long_blk_dist = i.value.value });
       })
       (plain_of s at 5 w)
-  unfolding plain_of judged_as word_as mark_as sixteen_as short_as count_as gravest cells_at lists list_in look_in body_in slot_of place_in keys
+  unfolding plain_of judged_as held_as gravest cells_at lists list_in look_in body_in slot_of place_in keys
   att_prp_is w a b c d e f g h i pa pb pc pd pe pf pg ph pi = rw (pi, ph, pg, pf, pe, pd, pc, pb, pa)
 
-  pub det_prp_is : (w : ℕ) (a : HeldWord) → a ≡ word_as true 2 (on unsigned64 26) w → ◌≡◌ {A = Bodied} (record { worst = a.worst; body = Body.DetPrp a.value.value }) (plain_of s at 6 w)
-  unfolding plain_of judged_as word_as gravest cells_at lists list_in look_in body_in slot_of place_in keys
+  pub det_prp_is : (w : ℕ) (a : Held (Maybe ℕ)) → a ≡ held_as (maybe_of word_in) true 2 (on unsigned64 26) w → ◌≡◌ {A = Held Body} (record { worst = a.worst; value = Body.DetPrp a.value.value }) (plain_of s at 6 w)
+  unfolding plain_of judged_as held_as gravest cells_at lists list_in look_in body_in slot_of place_in keys
   det_prp_is w a pa = rw pa
-
-pub crossed_so : (expected known opened : Bool) (r : ℕ) → expected && (known && not opened) ≡ true → r ≡ graded 1 13 → r ≡ crossed_by expected known opened
-unfolding crossed_by
-crossed_so expected known opened r t e = e ∙ sym (simp t)
-
-pub crossed_not : (expected known opened : Bool) → expected && (known && not opened) ≡ false → 0 ≡ crossed_by expected known opened
-unfolding crossed_by
-crossed_not expected known opened t = sym (simp t)
-
-pub ruleset commands = (described_is, con_is, con_rsp_is, status_is, packet_is, det_is, ul_data_is, det_rsp_is, att_prp_is, det_prp_is, crossed_so, crossed_not)

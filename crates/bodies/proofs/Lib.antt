@@ -1,7 +1,7 @@
 pub mod Values
 pub mod Worth
 pub mod Bytes
-pub mod Parts
+pub mod Readers
 pub mod Commands
 pub mod Whole
 pub mod Downlinks

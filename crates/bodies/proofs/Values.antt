@@ -10,8 +10,9 @@ use borrow.Author.Tests.{leb-true, leb-false, le-leb}
 use Rattle.octets.specs.{Choice.either, Bytes.put_at, Pieces.strung}
 use Rattle.octets.proofs.Writing.{put_out}
 use Rattle.element.specs.Meaning.{Element}
-use Rattle.number.specs.declared.Number.{Number, TheVariants.Signed, TheVariants.Unsigned, TheVariants.Real, TheVariants.Not}
-use Rattle.number.specs.Number.{number_of}
+use Rattle.std.specs.Prelude.{Some, None}
+use Rattle.number.specs.declared.Number.TheVariants.{Signed, Unsigned, Real}
+use Rattle.number.specs.Number.{Found, number_of}
 use Rattle.field.specs.{Kind.Kind, Kind.Value, Code.At.string_filled}
 use Rattle.field.specs.Judge.{when, on_some, in_range, whole_in, truth_of, text_of, parts_of, naturals_in, octets_in, pieces_in, counts_sized, strings_sized, string_sized, judge}
 use Rattle.message.specs.Record.{string_of}
@@ -51,15 +52,15 @@ module _ {A : Type 0} (f : A → Option Value) (v : Value) where
   onward (some a) g e h = h a e
 
 -- whole numbers
-whole_is : (lo hi : ℕ) (n : Number) (v : Value) → whole_in lo hi n ≡ some v → IsWhole lo hi v
-whole_is lo hi (Signed z) v e =
+whole_is : (lo hi : ℕ) (n : Found) (v : Value) → whole_in lo hi n ≡ some v → IsWhole lo hi v
+whole_is lo hi (Some (Signed z)) v e =
     let p = passed (in_range lo hi z) (Value.number z) v e in
     subst (IsWhole lo hi) p.1 (IsWhole.whole z p.0)
-whole_is lo hi (Unsigned n) v e =
+whole_is lo hi (Some (Unsigned n)) v e =
     let p = passed (leb n hi) (Value.number (pos n)) v e in
     subst (IsWhole lo hi) p.1 (IsWhole.whole (pos n) p.0)
-whole_is lo hi (Real x) v e = never v e
-whole_is lo hi Not v e = never v e
+whole_is lo hi (Some (Real x)) v e = never v e
+whole_is lo hi None v e = never v e
 
 -- bytes
 first : (a b : Bool) → (a && b) ≡ true → a ≡ true

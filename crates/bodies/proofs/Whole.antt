@@ -12,20 +12,23 @@ use mir.ValLaws.{to_z-of_z}
 use Rattle.names.specs.{Names.bytes, Names.place_in, Names.downlink, Code.Slots.keys, Code.Slots.slot_of}
 use Rattle.field.specs.{Kind.Kind, Kind.signed64, Code.At.cell_at}
 use Rattle.message.specs.{Fields.lists, Fields.list_in, Fields.fields_of, Code.Cells.cells_at, Record.id_in}
+use Rattle.message.specs.Record.{maybe_of}
+use Rattle.message.specs.declared.{Maybe.Maybe}
+use lib.IntN.{ℤ}
 use Rattle.message.specs.{Reading.gravest, Reading.look_in, Reading.crossed}
 use Rattle.record.specs.declared.Body.{Body}
 use Rattle.record.specs.Record.{body_in, message_of}
 use Rattle.record.proofs.{Commands.Command, Commands.command, Commands.begins, Commands.Past.past}
 use Rattle.record.proofs.Commands.Command.{con, con_rsp, status_rsp, det, det_rsp, att_prp, det_prp, ul_data, dl_data_que, bare}
-use Rattle.bodies.specs.declared.{HeldId.HeldId, Bodied.Bodied}
-use Rattle.bodies.specs.Code.Held.{judged_as, id_as}
+use Rattle.bodies.specs.declared.Held.{Held}
+use Rattle.bodies.specs.Code.Held.{judged_as, held_as}
 use Rattle.bodies.specs.Code.Read.{Read, look_for, read_of, gravest_from, plain_of, downlink_of, Bodying, bodying, bodied_of}
 
 max_zero : (w : ℕ) → max w 0 ≡ w
 max_zero w = omega arith
 
 -- a command without the rule
-module _ (s at : List ℕ) (r : Bodied) (user : List ℕ) (w : ℕ) where
+module _ (s at : List ℕ) (r : Held Body) (user : List ℕ) (w : ℕ) where
   plain_is : (c : ℕ) → crossed (fields_of c) (look_for s at c) ≡ 0 → eqb c 7 ≡ false → r ≡ plain_of s at c w → ◌≡◌ {A = Bodying} (bodying r user) (bodied_of s at c user w)
   unfolding bodied_of plain_of
   plain_is c x n e =
@@ -34,8 +37,8 @@ module _ (s at : List ℕ) (r : Bodied) (user : List ℕ) (w : ℕ) where
 
 -- a number past the lists
 module _ (s at user : List ℕ) (w : ℕ) where
-  abbrev bared : ℕ → Bodied
-  bared c = record { worst = w; body = Body.Bare c }
+  abbrev bared : ℕ → Held Body
+  bared c = record { worst = w; value = Body.Bare c }
 
   by_command : {c : ℕ} → Command c → (c ≡ 0 → ⊥) → (c ≡ 1 → ⊥) → (c ≡ 2 → ⊥) → (c ≡ 3 → ⊥) → (c ≡ 4 → ⊥) → (c ≡ 5 → ⊥) → (c ≡ 6 → ⊥) → (c ≡ 7 → ⊥) → (c ≡ downlink → ⊥) → bared c ≡ plain_of s at c w
   unfolding plain_of lists list_in cells_at look_in gravest body_in
@@ -69,15 +72,15 @@ module _ (s at user : List ℕ) (w : ℕ) where
     bare_bodied n0 n1 n2 n3 n4 n5 n6 n7 n21 = plain_is s at (bared c) user w c (uncrossed (command c) n7 n21) (ne_eqb c 7 n7) (by_command (command c) n0 n1 n2 n3 n4 n5 n6 n7 n21)
 
     -- the others that have no rule between two fields
-    pub plain_bodied : (k : ℕ) (r : Bodied) → r ≡ plain_of s at k w → c ≡ k → eqb k 7 ≡ false → eqb k downlink ≡ false → ◌≡◌ {A = Bodying} (bodying r user) (bodied_of s at c user w)
+    pub plain_bodied : (k : ℕ) (r : Held Body) → r ≡ plain_of s at k w → c ≡ k → eqb k 7 ≡ false → eqb k downlink ≡ false → ◌≡◌ {A = Bodying} (bodying r user) (bodied_of s at c user w)
     plain_bodied k r e q n d = plain_is s at r user w k (uncrossed (command k) (eqb-false k 7 n) (eqb-false k downlink d)) n e ∙ ap (λ (j : ℕ). bodied_of s at j user w) (sym q)
 
-    pub ul_data_bodied : (r : Bodied) (room : List ℕ) → c ≡ 7 → ◌≡◌ {A = Bodying} (bodying r room) (bodied_of s at 7 user w) → ◌≡◌ {A = Bodying} (bodying r room) (bodied_of s at c user w)
+    pub ul_data_bodied : (r : Held Body) (room : List ℕ) → c ≡ 7 → ◌≡◌ {A = Bodying} (bodying r room) (bodied_of s at 7 user w) → ◌≡◌ {A = Bodying} (bodying r room) (bodied_of s at c user w)
     ul_data_bodied r room q e = e ∙ ap (λ (j : ℕ). bodied_of s at j user w) (sym q)
 
-    pub downlink_bodied : (r : Bodied) → c ≡ downlink → r ≡ downlink_of s at w → ◌≡◌ {A = Bodying} (bodying r user) (bodied_of s at c user w)
+    pub downlink_bodied : (r : Held Body) → c ≡ downlink → r ≡ downlink_of s at w → ◌≡◌ {A = Bodying} (bodying r user) (bodied_of s at c user w)
     unfolding bodied_of plain_of downlink_of
-    downlink_bodied r q e = ap (λ (b : Bodied). bodying b user) e ∙ ap (λ (j : ℕ). bodied_of s at j user w) (sym q)
+    downlink_bodied r q e = ap (λ (b : Held Body). bodying b user) e ∙ ap (λ (j : ℕ). bodied_of s at j user w) (sym q)
 
 pub ruleset bodieds = (bare_bodied, plain_bodied, ul_data_bodied, downlink_bodied, arith)
 
@@ -86,11 +89,11 @@ module _ (s at : List ℕ) where
   named : ℕ
   named = judged_as true 0 (cell_at Kind.words s (get_or at 0 0)) 0
 
-  numbered : HeldId
-  numbered = id_as true 1 (cell_at signed64 s (get_or at 1 0)) named
+  numbered : Held (Maybe ℤ)
+  numbered = held_as (maybe_of id_in) true 1 (cell_at signed64 s (get_or at 1 0)) named
 
   gravest_headed : (c : ℕ) → gravest 0 0 (fields_of c) (cells_at (fields_of c) s at) ≡ gravest_from s at c numbered.worst
-  unfolding named numbered id_as judged_as gravest cells_at slot_of place_in keys
+  unfolding named numbered held_as judged_as gravest cells_at slot_of place_in keys
   gravest_headed c = rw (begins (command c))
 
   id_look : {c : ℕ} → Command c → look_for s at c (bytes "opId") ≡ cell_at signed64 s (get_or at 1 0)
@@ -106,15 +109,15 @@ module _ (s at : List ℕ) where
   id_look dl_data_que = refl
   id_look (bare (past i) e) = rw e
 
-  pub read_is : (c : ℕ) (user room : List ℕ) (x : ℕ) (i : HeldId) (b : Bodied) → SFits w64 i.value.value
-      → x ≡ judged_as true 0 (cell_at Kind.words s (get_or at 0 0)) 0 → i ≡ id_as true 1 (cell_at signed64 s (get_or at 1 0)) x
+  pub read_is : (c : ℕ) (user room : List ℕ) (x : ℕ) (i : Held (Maybe ℤ)) (b : Held Body) → SFits w64 i.value.value
+      → x ≡ judged_as true 0 (cell_at Kind.words s (get_or at 0 0)) 0 → i ≡ held_as (maybe_of id_in) true 1 (cell_at signed64 s (get_or at 1 0)) x
       → ◌≡◌ {A = Bodying} (bodying b room) (bodied_of s at c user i.worst)
-      → ◌≡◌ {A = Read} (record { graded = record { worst = b.worst; message = record { op_id = to_z w64 (of_z w64 i.value.value); body = b.body } }; user = room }) (read_of s at c user)
-  unfolding read_of bodied_of plain_of message_of named numbered id_as
+      → ◌≡◌ {A = Read} (record { graded = record { worst = b.worst; message = record { op_id = to_z w64 (of_z w64 i.value.value); body = b.value } }; user = room }) (read_of s at c user)
+  unfolding read_of bodied_of plain_of message_of named numbered held_as
   read_is c user room x i b fit px pi pb =
-      let j : i ≡ numbered = pi ∙ ap (id_as true 1 (cell_at signed64 s (get_or at 1 0))) px in
-      let z : i.value.value ≡ id_in (look_for s at c (bytes "opId")) = ap (λ (h : HeldId). h.value.value) j ∙ ap id_in (sym (id_look (command c))) in
-      let g : gravest_from s at c i.worst ≡ gravest 0 0 (fields_of c) (cells_at (fields_of c) s at) = ap (λ (h : HeldId). gravest_from s at c h.worst) j ∙ sym (gravest_headed c) in
+      let j : i ≡ numbered = pi ∙ ap (held_as (maybe_of id_in) true 1 (cell_at signed64 s (get_or at 1 0))) px in
+      let z : i.value.value ≡ id_in (look_for s at c (bytes "opId")) = ap (λ (h : Held (Maybe ℤ)). h.value.value) j ∙ ap id_in (sym (id_look (command c))) in
+      let g : gravest_from s at c i.worst ≡ gravest 0 0 (fields_of c) (cells_at (fields_of c) s at) = ap (λ (h : Held (Maybe ℤ)). gravest_from s at c h.worst) j ∙ sym (gravest_headed c) in
       rw (to_z-of_z w64 i.value.value fit, z)
-      (ap (λ (y : Bodying). record { graded = record { worst = y.bodied.worst; message = record { op_id = id_in (look_for s at c (bytes "opId")); body = y.bodied.body } }; user = y.user }) pb
+      (ap (λ (y : Bodying). record { graded = record { worst = y.bodied.worst; message = record { op_id = id_in (look_for s at c (bytes "opId")); body = y.bodied.value } }; user = y.user }) pb
       ∙ rw g)

@@ -1,21 +1,23 @@
--- What a cell holds, by its kind: a number below 2 ^ b is its lowest b bits, a signed one is the bits of its width, a mark is 1. A cell with no value holds zeros.
+-- What a cell holds, by its kind: a word is at most so much, a signed one is the bits of its width, a mark is 1. A cell with no value holds zeros.
 -- Assumes nothing.
 use mathlib.Core.Path.{◌≡◌, refl, ap, ◌∙◌}
-use mathlib.Core.{Bool.true, Bool.false, Bool.◌||◌, List.List, Option.Option, Option.some, Option.none}
+use mathlib.Core.{Bool.true, List.List, Option.Option, Option.some, Option.none}
 use Prim.Native.Nat.{ℕ, zero, suc, ◌%◌, ◌^◌, ◌≤◌, ◌<◌}
-use native.Mathlib.Nat.{mod-eq_of_lt}
 use native.Mathlib.Omega.{arith}
-use lib.{Dec.eqb, IntN.ℤ, IntN.pos, IntN.negsuc, Signed.mag}
+use lib.{IntN.ℤ, IntN.pos, IntN.negsuc, Signed.mag}
 use borrow.Author.Tests.{leb-true}
 use mir.Syntax.{w32, w64}
 use mir.Val.{SFits}
+use Rattle.std.specs.Prelude.{is_none, is_ok}
+use Rattle.std.specs.Result.{result_err, result_unwrap_or}
 use Rattle.octets.specs.Signed.{bits_of, signed_of}
 use Rattle.octets.proofs.Signs.{signed_back}
 use Rattle.element.specs.Meaning.{Element}
-use Rattle.field.specs.{Kind.Kind, Kind.Value, Judge.in_range, Judge.judge, Code.Told.cell_state, Code.At.seen_at, Code.At.cell_at}
-use Rattle.field.specs.Cell.{Cell, judged, here, word_of}
-use Rattle.message.specs.{Record.word_in, Record.id_in, Record.mark_in, Record.id_of, Record.mark_of, Reading.is_valid}
-use Rattle.bodies.proofs.Values.{IsWhole, IsMark, IsString, AreParts, wholes_are, flags_are, arrays_are, counters_are, pieces_are, texts_are}
+use Rattle.field.specs.{Kind.Kind, Kind.Value, Judge.in_range, Judge.judge, Code.Told.told_of, Code.At.seen_at, Code.At.cell_at}
+use Rattle.field.specs.Cell.{Cell, judged, here, value_in, word_of}
+use Rattle.message.specs.{Record.word_in, Record.id_in, Record.id_of, Reading.is_valid}
+use Rattle.bodies.specs.{Code.Held.flaw_of, Code.Read.is_valid_by}
+use Rattle.bodies.proofs.Values.{IsWhole, IsString, AreParts, wholes_are, arrays_are, counters_are, pieces_are, texts_are}
 
 -- a cell of a kind: no value, or one that the kind takes
 pub data Worth (k : Kind) : Cell → Type 0 where
@@ -34,17 +36,37 @@ worth k s zero = missing
 worth k s (suc zero) = double
 worth k s (suc (suc p)) = of_judged k (seen_at k s (suc (suc p))) (judge k (seen_at k s (suc (suc p)))) refl
 
-pub valid_state : (c : Cell) → eqb (cell_state c) 0 || eqb (cell_state c) 2 ≡ is_valid c
-valid_state Cell.missing = refl
-valid_state Cell.double = refl
-valid_state Cell.bad = refl
-valid_state (Cell.good v) = refl
+-- what is told of a cell: why it has no value, whether it has one, and the value
+module _ {A : Type 0} (f : Value → A) where
+  pub told_flaw : (c : Cell) → result_err (told_of f c) ≡ flaw_of c
+  told_flaw Cell.missing = refl
+  told_flaw Cell.double = refl
+  told_flaw Cell.bad = refl
+  told_flaw (Cell.good v) = refl
 
-pub here_state : (c : Cell) → eqb (cell_state c) 0 ≡ here c
-here_state Cell.missing = refl
-here_state Cell.double = refl
-here_state Cell.bad = refl
-here_state (Cell.good v) = refl
+  pub told_here : (c : Cell) → is_ok (told_of f c) ≡ here c
+  told_here Cell.missing = refl
+  told_here Cell.double = refl
+  told_here Cell.bad = refl
+  told_here (Cell.good v) = refl
+
+  pub told_value : (c : Cell) → result_unwrap_or (told_of f c) (f Value.nothing) ≡ f (value_in c)
+  told_value Cell.missing = refl
+  told_value Cell.double = refl
+  told_value Cell.bad = refl
+  told_value (Cell.good v) = refl
+
+pub valid_flaw : (c : Cell) → is_valid_by (flaw_of c) ≡ is_valid c
+valid_flaw Cell.missing = refl
+valid_flaw Cell.double = refl
+valid_flaw Cell.bad = refl
+valid_flaw (Cell.good v) = refl
+
+pub here_flaw : (c : Cell) → is_none (flaw_of c) ≡ here c
+here_flaw Cell.missing = refl
+here_flaw Cell.double = refl
+here_flaw Cell.bad = refl
+here_flaw (Cell.good v) = refl
 
 -- the kinds whose words are at most so much
 pub data Most : Kind → ℕ → Type 0 where
@@ -72,15 +94,11 @@ word_most _ _ (Most.counters many) e v j = parts_most many v (counters_are e v m
 word_most _ _ (Most.pieces many most all) e v j = parts_most many v (pieces_are e v many most all j)
 word_most _ _ (Most.text lo hi) e v j = string_most lo hi v (texts_are e v lo hi j)
 
-cell_most : (k : Kind) (m : ℕ) → Most k m → (c : Cell) → Worth k c → word_in c ≤ m
+pub cell_most : (k : Kind) (m : ℕ) → Most k m → (c : Cell) → Worth k c → word_in c ≤ m
 cell_most k m l _ missing = omega arith
 cell_most k m l _ double = omega arith
 cell_most k m l _ bad = omega arith
 cell_most k m l _ (good v e j) = word_most k m l e v j
-
--- so many bits hold the word
-pub low_word : (k : Kind) (b m : ℕ) → Most k m → m < 2 ^ b → (c : Cell) → Worth k c → word_in c % 2 ^ b ≡ word_in c
-low_word k b m l h c w = mod-eq_of_lt (omega (arith, cell_most k m l c w))
 
 -- a signed number of 64 bits, and of 32 by its lowest
 fits_in : (half lo hi : ℕ) → lo ≤ half → hi < half → (z : ℤ) → in_range lo hi z ≡ true → mag z < half
@@ -115,14 +133,3 @@ module _ (lo hi : ℕ) where
       go _ (IsWhole.whole z r) =
           let t : SFits w32 z = record { sfits = fits_in (2 ^ 31) lo hi f g z r } in
           ap (signed_of 32) (low_bits z t) ∙ signed_back w32 z t
-
--- a mark's word is 1 or 0
-pub mark_word : (c : Cell) → Worth Kind.flags c → eqb (word_in c) 1 ≡ mark_in c
-mark_word _ missing = refl
-mark_word _ double = refl
-mark_word _ bad = refl
-mark_word _ (good v e j) = go v (flags_are e v j)
-  where
-    go : (v : Value) → IsMark v → eqb (word_of v) 1 ≡ mark_of v
-    go _ (IsMark.mark true) = refl
-    go _ (IsMark.mark false) = refl

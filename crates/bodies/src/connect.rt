@@ -3,12 +3,13 @@ ghost use Rattle.std.specs.Prelude.{◌≡◌, ◌≤◌};
 ghost use Rattle.message.specs.{Fields.described, Code.Cells.cells_at, Reading.gravest};
 ghost use Rattle.bodies.specs.Code.Read.{plain_of};
 
-use crate::{Bodied, part};
+use crate::{Held, part};
 use message::listed;
 use names::slots;
 use record::Body;
 
-pub fn con(s: &[u8], at: &[u16; 64], worst: u16) -> Bodied
+#[tactic(auto, using(crate::proofs::Commands::con_is))]
+pub fn con(s: &[u8], at: &[u16; 64], worst: u16) -> Held<Body>
     ensures { result ≡ plain_of s.now at.now 0 worst }
 {
     let a = part::version(s, at[slots::VERSION], part::MUST, listed::VERSION, worst);
@@ -39,26 +40,22 @@ pub fn con(s: &[u8], at: &[u16; 64], worst: u16) -> Bodied
         listed::SN_SC_OP_ID,
         f.worst,
     );
-    let release = a.value;
-    let position = d.value;
-    let uuid = e.value;
-    let station = f.value;
-    let centre = g.value;
-    Bodied {
+    Held {
         worst: described(s, at, listed::CON_VENDOR, g.worst),
-        body: Body::Con(record::Con {
-            version: release,
+        value: Body::Con(record::Con {
+            version: a.value,
             bs_eui: b.value.value,
             bidi: c.value.value,
-            geo_location: position,
-            sn_bs_uuid: uuid,
-            sn_bs_op_id: station,
-            sn_sc_op_id: centre,
+            geo_location: d.value,
+            sn_bs_uuid: e.value,
+            sn_bs_op_id: f.value,
+            sn_sc_op_id: g.value,
         }),
     }
 }
 
-pub fn con_rsp(s: &[u8], at: &[u16; 64], worst: u16) -> Bodied
+#[tactic(auto, using(crate::proofs::Commands::con_rsp_is))]
+pub fn con_rsp(s: &[u8], at: &[u16; 64], worst: u16) -> Held<Body>
     ensures { result ≡ plain_of s.now at.now 1 worst }
 {
     let a = part::version(s, at[slots::VERSION], part::MAY, listed::VERSION, worst);
@@ -71,20 +68,19 @@ pub fn con_rsp(s: &[u8], at: &[u16; 64], worst: u16) -> Bodied
         b.worst,
     );
     let d = part::sixteen(s, at[slots::SN_SC_UUID], listed::SN_SC_UUID, c.worst);
-    let release = a.value;
-    let uuid = d.value;
-    Bodied {
+    Held {
         worst: described(s, at, listed::CON_RSP_VENDOR, d.worst),
-        body: Body::ConRsp(record::ConRsp {
-            version: release,
+        value: Body::ConRsp(record::ConRsp {
+            version: a.value,
             sc_eui: b.value.value,
             sn_resume: c.value.value,
-            sn_sc_uuid: uuid,
+            sn_sc_uuid: d.value,
         }),
     }
 }
 
 // The D fields of both, from a place of the list on.
+#[tactic(auto, using(crate::proofs::Commands::described_is))]
 fn described(s: &[u8], at: &[u16; 64], i: u8, worst: u16) -> u16
     requires { i ≤ 32 }
     ensures { result ≡ gravest worst i described (cells_at described s.now at.now) }

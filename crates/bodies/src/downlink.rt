@@ -1,12 +1,15 @@
 // dlDataQue. Its counters and data entries stay where they are.
-ghost use Rattle.std.specs.Prelude.{◌≡◌};
-ghost use Rattle.bodies.specs.Code.Read.{flags_as, downlink_of, miscounted_by, agree_by};
+ghost use Rattle.std.specs.Prelude.{◌≡◌, is_none};
+ghost use Rattle.bodies.specs.Code.Read.{flags_as, downlink_of, miscounted_by, agree_by, is_valid_by};
 
-use crate::{Bodied, HeldFlags, HeldParts, part};
-use message::{MaybeMark, listed};
+use crate::{Held, Marks, Parts, part};
+use field::Flaw;
+use message::{Maybe, listed};
 use names::slots;
+use record::Body;
 
-pub fn dl_data_que(s: &[u8], at: &[u16; 64], worst: u16) -> Bodied
+#[tactic(auto, using(crate::proofs::Downlinks::downlink_is))]
+pub fn dl_data_que(s: &[u8], at: &[u16; 64], worst: u16) -> Held<Body>
     ensures { result ≡ downlink_of s.now at.now worst }
 {
     let a = part::word(s, at[slots::EP_EUI], part::MUST, listed::EP_EUI, worst);
@@ -29,28 +32,26 @@ pub fn dl_data_que(s: &[u8], at: &[u16; 64], worst: u16) -> Bodied
     let g = part::single(s, at[slots::PRIO], listed::PRIO, f.worst);
     let h = flags(s, at, g.worst);
     let depends = c.value;
-    let expected = h.response_exp;
-    let urgent = h.response_prio;
-    let window = h.dl_wind_req;
-    let only = h.exp_only;
-    Bodied {
-        worst: part::graver(h.worst, miscounted(depends, d, e)),
-        body: record::Body::DlDataQue(record::DlDataQue {
+    let marks = h.value;
+    Held {
+        worst: h.worst.max(miscounted(depends, d.value, e.value)),
+        value: Body::DlDataQue(record::DlDataQue {
             ep_eui: a.value.value,
             que_id: b.value.value,
             cnt_depend: depends.value,
-            entries: e.count,
+            entries: e.value.count,
             format: f.value,
             prio: g.value.value,
-            response_exp: expected,
-            response_prio: urgent,
-            dl_wind_req: window,
-            exp_only: only,
+            response_exp: marks.response_exp,
+            response_prio: marks.response_prio,
+            dl_wind_req: marks.dl_wind_req,
+            exp_only: marks.exp_only,
         }),
     }
 }
 
-fn flags(s: &[u8], at: &[u16; 64], worst: u16) -> HeldFlags
+#[tactic(auto, using(crate::proofs::Downlinks::flags_is))]
+fn flags(s: &[u8], at: &[u16; 64], worst: u16) -> Held<Marks>
     ensures { result ≡ flags_as s.now at.now worst }
 {
     let a = part::mark(
@@ -75,41 +76,52 @@ fn flags(s: &[u8], at: &[u16; 64], worst: u16) -> HeldFlags
         b.worst,
     );
     let d = part::mark(s, at[slots::EXP_ONLY], part::MAY, listed::EXP_ONLY, c.worst);
-    let expected = a.value;
-    let urgent = b.value;
-    let window = c.value;
-    let only = d.value;
-    HeldFlags {
+    Held {
         worst: d.worst,
-        response_exp: expected,
-        response_prio: urgent,
-        dl_wind_req: window,
-        exp_only: only,
+        value: Marks {
+            response_exp: a.value,
+            response_prio: b.value,
+            dl_wind_req: c.value,
+            exp_only: d.value,
+        },
     }
 }
 
 // cntDepend against its counts is invalid, at packetCnt's place, where all three are valid.
-fn miscounted(depends: MaybeMark, counters: HeldParts, entries: HeldParts) -> u16
+#[tactic(auto, unfolding(crate::specs::Code::Read::miscounted_by))]
+fn miscounted(depends: Maybe<bool>, counters: Parts, entries: Parts) -> u16
     ensures { result ≡ miscounted_by depends counters entries }
 {
-    let known = (counters.state == part::GOOD) | (counters.state == part::MISSING);
-    let judged = depends.here & (known & (entries.state == part::GOOD));
-    if judged {
-        if agree(depends.value, counters, entries) {
-            return 0;
-        }
-        return part::grade_of(part::INVALID, listed::DOWNLINK_PACKET_CNT);
+    let judged = depends.here & (is_valid(counters.flaw) & is_good(entries.flaw));
+    if judged & !agree(depends.value, counters, entries) {
+        part::grade_of(Flaw::Invalid, listed::DOWNLINK_PACKET_CNT)
+    } else {
+        0
     }
-    0
 }
 
 // As many entries as counters, at least one; or one entry and no counters.
-fn agree(depends: bool, counters: HeldParts, entries: HeldParts) -> bool
+#[tactic(auto, unfolding(crate::specs::Code::Read::agree_by))]
+fn agree(depends: bool, counters: Parts, entries: Parts) -> bool
     ensures { result ≡ agree_by depends counters entries }
 {
-    let given = counters.state == part::GOOD;
+    let given = is_good(counters.flaw);
     if depends {
-        return given & ((counters.count == entries.count) & (1 <= entries.count));
+        given & ((counters.count == entries.count) & (1 <= entries.count))
+    } else {
+        !given & (entries.count == 1)
     }
-    !given & (entries.count == 1)
+}
+
+fn is_good(flaw: Option<Flaw>) -> bool
+    ensures { result ≡ is_none flaw }
+{
+    matches!(flaw, None)
+}
+
+// There, or absent.
+fn is_valid(flaw: Option<Flaw>) -> bool
+    ensures { result ≡ is_valid_by flaw }
+{
+    matches!(flaw, None | Some(Flaw::Missing))
 }

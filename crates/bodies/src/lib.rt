@@ -13,7 +13,8 @@ ghost use Rattle.bodies.specs.Code.Read.{Read, read_of, Bodying, bodying, bodied
 
 use connect::{con, con_rsp};
 use downlink::dl_data_que;
-use message::listed;
+use field::Flaw;
+use message::{Maybe, listed};
 use names::{numbers, slots};
 use propagate::{att_prp, det_prp};
 use record::{Body, Message, Sixteen};
@@ -21,114 +22,32 @@ use status::status_rsp;
 
 // A field's value, and the gravest fault of its list with it.
 #[derive(Clone, Copy)]
-struct HeldWord {
+struct Held<T> {
     worst: u16,
-    value: message::MaybeWord,
+    value: T,
 }
 
+// An array's parts: why there is none, and how many they are.
 #[derive(Clone, Copy)]
-struct HeldCount {
-    worst: u16,
-    value: u32,
-}
-
-#[derive(Clone, Copy)]
-struct HeldShort {
-    worst: u16,
-    value: u16,
-}
-
-#[derive(Clone, Copy)]
-struct HeldOctet {
-    worst: u16,
-    value: u8,
-}
-
-#[derive(Clone, Copy)]
-struct HeldId {
-    worst: u16,
-    value: message::MaybeId,
-}
-
-#[derive(Clone, Copy)]
-struct HeldCode {
-    worst: u16,
-    value: i32,
-}
-
-#[derive(Clone, Copy)]
-struct HeldMark {
-    worst: u16,
-    value: message::MaybeMark,
-}
-
-// An array's parts: how the field stands, and how many they are.
-#[derive(Clone, Copy)]
-struct HeldParts {
-    worst: u16,
-    state: u8,
+struct Parts {
+    flaw: Option<Flaw>,
     count: u8,
-}
-
-#[derive(Clone, Copy)]
-struct HeldReal {
-    worst: u16,
-    value: message::MaybeReal,
-}
-
-#[derive(Clone, Copy)]
-struct HeldPosition {
-    worst: u16,
-    value: message::MaybePosition,
-}
-
-#[derive(Clone, Copy)]
-struct HeldVersion {
-    worst: u16,
-    value: message::MaybeVersion,
-}
-
-#[derive(Clone, Copy)]
-struct HeldFour {
-    worst: u16,
-    value: u32,
-}
-
-#[derive(Clone, Copy)]
-struct HeldSixteen {
-    worst: u16,
-    value: Sixteen,
 }
 
 // The first `len` of sixteen bytes; zeros behind them.
 #[derive(Clone, Copy)]
-struct HeldProfile {
-    worst: u16,
+struct Profile {
     len: u8,
-    value: Sixteen,
-}
-
-// The fields that det and ulData have in common, and all that a command has behind opId.
-#[derive(Clone, Copy)]
-struct HeldPacket {
-    worst: u16,
-    value: record::Packet,
+    text: Sixteen,
 }
 
 // A downlink's optional marks.
 #[derive(Clone, Copy)]
-struct HeldFlags {
-    worst: u16,
-    response_exp: message::MaybeMark,
-    response_prio: message::MaybeMark,
-    dl_wind_req: message::MaybeMark,
-    exp_only: message::MaybeMark,
-}
-
-#[derive(Clone, Copy)]
-struct Bodied {
-    worst: u16,
-    body: Body,
+struct Marks {
+    response_exp: Maybe<bool>,
+    response_prio: Maybe<bool>,
+    dl_wind_req: Maybe<bool>,
+    exp_only: Maybe<bool>,
 }
 
 // A fault of rank 1 (invalid), 2 (missing) or 3 (twice) counts for more than any place.
@@ -156,18 +75,18 @@ pub fn read(s: &[u8], at: &[u16; 64], command: u8, user: &mut [u8; 245]) -> Grad
         named,
     );
     let b = body_of(s, at, command, user, op_id.worst);
-    let body = b.body;
     Graded {
         worst: b.worst,
         message: Message {
             op_id: op_id.value.value,
-            body: body,
+            body: b.value,
         },
     }
 }
 
 // Nothing is read that the command has not. Each command answers by itself: where the answers meet, all would carry the fields of all.
-fn body_of(s: &[u8], at: &[u16; 64], command: u8, user: &mut [u8; 245], worst: u16) -> Bodied
+#[tactic(auto, using(crate::proofs::Whole::bodieds))]
+fn body_of(s: &[u8], at: &[u16; 64], command: u8, user: &mut [u8; 245], worst: u16) -> Held<Body>
     ensures { ◌≡◌ {A = Bodying} (bodying result user.new) (bodied_of s.now at.now command user.old worst) }
 {
     match command {
@@ -182,8 +101,8 @@ fn body_of(s: &[u8], at: &[u16; 64], command: u8, user: &mut [u8; 245], worst: u
         numbers::DL_DATA_QUE => return dl_data_que(s, at, worst),
         _ => {}
     }
-    Bodied {
+    Held {
         worst: worst,
-        body: Body::Bare(command),
+        value: Body::Bare(command),
     }
 }

@@ -2,12 +2,13 @@
 ghost use Rattle.std.specs.Prelude.{◌≡◌};
 ghost use Rattle.bodies.specs.Code.Read.{plain_of};
 
-use crate::{Bodied, part};
+use crate::{Held, part};
 use message::listed;
 use names::slots;
 use record::Body;
 
-pub fn att_prp(s: &[u8], at: &[u16; 64], worst: u16) -> Bodied
+#[tactic(auto, using(crate::proofs::Commands::att_prp_is))]
+pub fn att_prp(s: &[u8], at: &[u16; 64], worst: u16) -> Held<Body>
     ensures { result ≡ plain_of s.now at.now 5 worst }
 {
     let a = part::word(s, at[slots::EP_EUI], part::MUST, listed::EP_EUI, worst);
@@ -54,13 +55,12 @@ pub fn att_prp(s: &[u8], at: &[u16; 64], worst: u16) -> Bodied
         listed::LONG_BLK_DIST,
         h.worst,
     );
-    let key = c.value;
-    Bodied {
+    Held {
         worst: i.worst,
-        body: Body::AttPrp(record::AttPrp {
+        value: Body::AttPrp(record::AttPrp {
             ep_eui: a.value.value,
             bidi: b.value.value,
-            nwk_sn_key: key,
+            nwk_sn_key: c.value,
             sh_addr: d.value,
             last_packet_cnt: e.value,
             dual_chan: f.value.value,
@@ -71,12 +71,13 @@ pub fn att_prp(s: &[u8], at: &[u16; 64], worst: u16) -> Bodied
     }
 }
 
-pub fn det_prp(s: &[u8], at: &[u16; 64], worst: u16) -> Bodied
+#[tactic(auto, using(crate::proofs::Commands::det_prp_is))]
+pub fn det_prp(s: &[u8], at: &[u16; 64], worst: u16) -> Held<Body>
     ensures { result ≡ plain_of s.now at.now 6 worst }
 {
     let a = part::word(s, at[slots::EP_EUI], part::MUST, listed::EP_EUI, worst);
-    Bodied {
+    Held {
         worst: a.worst,
-        body: Body::DetPrp(a.value.value),
+        value: Body::DetPrp(a.value.value),
     }
 }

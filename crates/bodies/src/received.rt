@@ -2,12 +2,14 @@
 ghost use Rattle.std.specs.Prelude.{◌≡◌};
 ghost use Rattle.bodies.specs.Code.Read.{packet_as, plain_of, Bodying, bodying, crossed_by, bodied_of};
 
-use crate::{Bodied, HeldPacket, part};
+use crate::{Held, part};
+use field::Flaw;
 use message::listed;
 use names::slots;
 use record::Body;
 
-fn packet(s: &[u8], at: &[u16; 64], worst: u16) -> HeldPacket
+#[tactic(auto, using(crate::proofs::Commands::packet_is))]
+fn packet(s: &[u8], at: &[u16; 64], worst: u16) -> Held<record::Packet>
     ensures { result ≡ packet_as s.now at.now worst }
 {
     let a = part::word(s, at[slots::EP_EUI], part::MUST, listed::EP_EUI, worst);
@@ -24,53 +26,53 @@ fn packet(s: &[u8], at: &[u16; 64], worst: u16) -> HeldPacket
     let f = part::real(s, at[slots::RSSI], part::MUST, listed::RSSI, e.worst);
     let g = part::real(s, at[slots::EQ_SNR], part::MAY, listed::EQ_SNR, f.worst);
     let h = part::profile(s, at[slots::PROFILE], listed::PROFILE, g.worst);
-    let duration = c.value;
-    let text = h.value;
-    HeldPacket {
+    let profile = h.value;
+    Held {
         worst: h.worst,
         value: record::Packet {
             ep_eui: a.value.value,
             rx_time: b.value.value,
-            rx_duration: duration,
+            rx_duration: c.value,
             packet_cnt: d.value,
             signal: message::Signal {
                 snr: e.value.value,
                 rssi: f.value.value,
-                eq_snr: g.value.value,
-                has_eq_snr: g.value.here,
+                eq_snr: g.value,
             },
-            profile_len: h.len,
-            profile: text,
+            profile_len: profile.len,
+            profile: profile.text,
         },
     }
 }
 
-pub fn det(s: &[u8], at: &[u16; 64], worst: u16) -> Bodied
+#[tactic(auto, using(crate::proofs::Commands::det_is))]
+pub fn det(s: &[u8], at: &[u16; 64], worst: u16) -> Held<Body>
     ensures { result ≡ plain_of s.now at.now 3 worst }
 {
     let p = packet(s, at, worst);
     let sign = part::four(s, at[slots::SIGN], listed::DET_SIGN, p.worst);
-    let heard = p.value;
-    Bodied {
+    Held {
         worst: part::table(s, at[slots::SUBPACKETS], listed::DET_SUBPACKETS, sign.worst),
-        body: Body::Det(record::Det {
-            packet: heard,
+        value: Body::Det(record::Det {
+            packet: p.value,
             sign: sign.value,
         }),
     }
 }
 
-pub fn det_rsp(s: &[u8], at: &[u16; 64], worst: u16) -> Bodied
+#[tactic(auto, using(crate::proofs::Commands::det_rsp_is))]
+pub fn det_rsp(s: &[u8], at: &[u16; 64], worst: u16) -> Held<Body>
     ensures { result ≡ plain_of s.now at.now 4 worst }
 {
     let sign = part::four(s, at[slots::SIGN], listed::DET_RSP_SIGN, worst);
-    Bodied {
+    Held {
         worst: sign.worst,
-        body: Body::DetRsp(sign.value),
+        value: Body::DetRsp(sign.value),
     }
 }
 
-pub fn ul_data(s: &[u8], at: &[u16; 64], user: &mut [u8; 245], worst: u16) -> Bodied
+#[tactic(auto, using(crate::proofs::Commands::ul_data_is))]
+pub fn ul_data(s: &[u8], at: &[u16; 64], user: &mut [u8; 245], worst: u16) -> Held<Body>
     ensures { ◌≡◌ {A = Bodying} (bodying result user.new) (bodied_of s.now at.now 7 user.old worst) }
 {
     let p = packet(s, at, worst);
@@ -87,11 +89,10 @@ pub fn ul_data(s: &[u8], at: &[u16; 64], user: &mut [u8; 245], worst: u16) -> Bo
     let e = part::mark(s, at[slots::DL_ACK], part::MUST, listed::DL_ACK, d.worst);
     let f = part::unkept(s, at[slots::MODE], part::MAY, listed::MODE, e.worst);
     let g = part::table(s, at[slots::SUBPACKETS], listed::UL_DATA_SUBPACKETS, f);
-    let heard = p.value;
-    Bodied {
-        worst: part::graver(g, crossed(d.value.value, c.value.here, c.value.value)),
-        body: Body::UlData(record::UlData {
-            packet: heard,
+    Held {
+        worst: g.max(crossed(d.value.value, c.value.here, c.value.value)),
+        value: Body::UlData(record::UlData {
+            packet: p.value,
             user_len: a.value,
             format: b.value,
             dl_open: c.value.value,
@@ -102,11 +103,13 @@ pub fn ul_data(s: &[u8], at: &[u16; 64], user: &mut [u8; 245], worst: u16) -> Bo
 }
 
 // responseExp true with dlOpen false is invalid, at responseExp's place, where dlOpen is valid.
+#[tactic(auto, unfolding(crate::specs::Code::Read::crossed_by))]
 fn crossed(expected: bool, known: bool, opened: bool) -> u16
     ensures { result ≡ crossed_by expected known opened }
 {
     if expected & (known & !opened) {
-        return part::grade_of(part::INVALID, listed::RESPONSE_EXP);
+        part::grade_of(Flaw::Invalid, listed::RESPONSE_EXP)
+    } else {
+        0
     }
-    0
 }

@@ -2,11 +2,12 @@
 ghost use Rattle.std.specs.Prelude.{◌≡◌};
 ghost use Rattle.bodies.specs.Code.Read.{plain_of};
 
-use crate::{Bodied, part};
+use crate::{Held, part};
 use message::listed;
 use names::slots;
+use record::Body;
 
-pub fn status_rsp(s: &[u8], at: &[u16; 64], worst: u16) -> Bodied
+pub fn status_rsp(s: &[u8], at: &[u16; 64], worst: u16) -> Held<Body>
     ensures { result ≡ plain_of s.now at.now 2 worst }
 {
     let a = part::code(s, at[slots::CODE], listed::CODE, worst);
@@ -29,23 +30,18 @@ pub fn status_rsp(s: &[u8], at: &[u16; 64], worst: u16) -> Bodied
     let g = part::real(s, at[slots::TEMP], part::MAY, listed::TEMP, f.worst);
     let h = part::real(s, at[slots::CPU_LOAD], part::MAY, listed::CPU_LOAD, g.worst);
     let i = part::real(s, at[slots::MEM_LOAD], part::MAY, listed::MEM_LOAD, h.worst);
-    let position = e.value;
-    let uptime = f.value;
-    let temp = g.value;
-    let cpu = h.value;
-    let mem = i.value;
-    Bodied {
+    Held {
         worst: part::table(s, at[slots::CONFIG], listed::CONFIG, i.worst),
-        body: record::Body::StatusRsp(record::StatusRsp {
+        value: Body::StatusRsp(record::StatusRsp {
             code: a.value,
             message_len: b.value,
             time: c.value.value,
             duty_cycle: d.value.value,
-            geo_location: position,
-            uptime: uptime,
-            temp: temp,
-            cpu_load: cpu,
-            mem_load: mem,
+            geo_location: e.value,
+            uptime: f.value,
+            temp: g.value,
+            cpu_load: h.value,
+            mem_load: i.value,
         }),
     }
 }

@@ -3,7 +3,7 @@ use Rattle.std.specs.Prelude.{true, false, List, [], ◌∷◌, ◌++◌, ℕ, z
 use lib.{IntN.pos, Ieee.Float, Ieee.fin, ListN.take, ListN.drop}
 use Rattle.names.specs.Names.{bytes}
 use Rattle.field.specs.Cell.{zero64, origin}
-use Rattle.message.specs.declared.MaybeReal.{MaybeReal}
+use Rattle.message.specs.declared.Maybe.{Maybe}
 use Rattle.record.specs.declared.{Body.Body, Message.Message}
 use Rattle.refusal.specs.declared.Refusal.TheVariants.{RoomTooShort}
 use Rattle.examples.specs.Example.{Example}
@@ -47,7 +47,7 @@ S-with duty = 0x86 ∷ []
     ++ 0xA4 ∷ bytes "time" ++ 0x01 ∷ []
     ++ 0xA9 ∷ bytes "dutyCycle" ++ duty
 
-abbrev no_figure : MaybeReal
+abbrev no_figure : Maybe Float
 no_figure = record { here = false; value = zero64 }
 
 abbrev pub status_rsp_1 : Float → Message

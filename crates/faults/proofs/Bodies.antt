@@ -42,7 +42,7 @@ packet_is a b p rs l behind s q =
     (pass _ _ _ _ _ s.3
     (look_on _ _ _ _ _ _ _ (real_in_lem p.signal.snr)
     (look_on _ _ _ _ _ _ _ (real_in_lem p.signal.rssi)
-    (look_on _ _ _ _ _ _ _ (figure_in [] p.signal.has_eq_snr p.signal.eq_snr)
+    (look_on _ _ _ _ _ _ _ (figure_in [] p.signal.eq_snr)
     (look_on _ _ _ _ _ 0 behind (profile_in [] p.profile p.profile_len) q)))))))
 
 abbrev fault_for : ℤ → List ℕ → Body → ℕ
@@ -85,9 +85,9 @@ module _ (z : ℤ) (id : Signed 0x7FFFFFFFFFFFFFFF z) (d : List ℕ) where
       (look _ _ _ _ _ _ (real_in_lem x.duty_cycle)
       (look _ _ _ _ _ _ (position_in [] x.geo_location)
       (look _ _ _ _ _ _ (maybe_sure [] unsigned64 x.uptime.here _ _ s.2)
-      (look _ _ _ _ _ _ (figure_in [] x.temp.here x.temp.value)
-      (look _ _ _ _ _ _ (figure_in [] x.cpu_load.here x.cpu_load.value)
-      (look _ _ _ _ _ _ (figure_in [] x.mem_load.here x.mem_load.value)
+      (look _ _ _ _ _ _ (figure_in [] x.temp)
+      (look _ _ _ _ _ _ (figure_in [] x.cpu_load)
+      (look _ _ _ _ _ _ (figure_in [] x.mem_load)
       (clear _ _ _ tt)))))))))))
 
   det_rsp_is : (sign : ℕ) → fault_for z d (Body.DetRsp sign) ≡ 0

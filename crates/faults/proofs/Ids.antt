@@ -8,7 +8,7 @@ use mir.Val.{to_z, of_z}
 use mir.Facts.{to_z-of_z}
 use borrow.Author.Tests.{le-leb, lt-leb, ne_eqb}
 use Rattle.field.specs.Judge.{in_range}
-use Rattle.message.specs.declared.MaybeId.{MaybeId}
+use Rattle.message.specs.declared.Maybe.{Maybe}
 use Rattle.saying.specs.Says.{is_zero}
 use Rattle.faults.specs.Code.Tests.{station_id_fits, centre_id_fits}
 
@@ -24,7 +24,7 @@ to_zero : (z : ℤ) → mag z < 0x8000000000000000 → le_z z (pos 0) ≡ in_ran
 to_zero (pos n) h = refl
 to_zero (negsuc k) h = sym (le-leb (suc k) 0x8000000000000000 h)
 
-module _ (v : MaybeId) (h : mag v.value < 0x8000000000000000) where
+module _ (v : Maybe ℤ) (h : mag v.value < 0x8000000000000000) where
   back : to_z w64 (of_z w64 v.value) ≡ v.value
   back = to_z-of_z {w = w64} {z = v.value} (record { sfits = h })
 

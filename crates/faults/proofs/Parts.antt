@@ -6,14 +6,15 @@ use Prim.Native.Nat.{ℕ, zero, suc, ◌/◌, ◌%◌, ◌^◌}
 use native.Mathlib.Nat.{mod-lt}
 use native.Mathlib.Omega.{arith}
 use lib.Dec.{eqb, leb, ltb, lit<}
-use lib.{IntN.pos, Ieee.Float, ListN.length, ListN.take, ListN.length-append, Pow.are_bytes, Seq.length-take-le}
+use lib.{IntN.ℤ, IntN.pos, Ieee.Float, ListN.length, ListN.take, ListN.length-append, Pow.are_bytes, Seq.length-take-le}
 use borrow.Author.Tests.{le-leb, leb-true, lt-ltb}
 use Rattle.octets.specs.{Choice.either, Bytes.IsBytes, Bytes.big_bytes}
 use Rattle.octets.proofs.Digits.{length_big}
 use Rattle.octets.proofs.Ranges.{is_true, true_is, both_left, both_right}
 use Rattle.field.specs.Kind.{Kind, Value, station_id, centre_id}
 use Rattle.message.specs.Fields.{Field}
-use Rattle.message.specs.declared.{MaybeId.MaybeId, MaybeMark.MaybeMark, MaybePosition.MaybePosition}
+use Rattle.field.specs.declared.Position.{Position}
+use Rattle.message.specs.declared.Maybe.{Maybe}
 use Rattle.saying.specs.Says.{is_zero, no_bits, no_position, position_value, said_if, real_if, id_if, mark_if, position_if, unless_zero}
 use Rattle.saying.specs.Fits.{within, is_real, field_fits}
 use Rattle.record.specs.declared.Sixteen.{Sixteen}
@@ -56,22 +57,22 @@ pub unless_in : (k : List ℕ) (kind : Kind) (n : ℕ) → within kind (Value.nu
 unless_in k kind n e = maybe_sure k kind (not (eqb n 0)) (Value.number (pos n)) (eqb n 0) e ∙ not-or_self (eqb n 0)
 
 module _ (k : List ℕ) where
-  pub marks_in : (w : MaybeMark) → field_fits (record { key = k; must = false; kind = Kind.flags }) (mark_if w) ≡ mark_fits w
+  pub marks_in : (w : Maybe Bool) → field_fits (record { key = k; must = false; kind = Kind.flags }) (mark_if w) ≡ mark_fits w
   marks_in w = maybe_sure k Kind.flags w.here (Value.mark w.value) (not w.value) (mark_in w.value)
 
-  pub figure_in : (here : Bool) (x : Float) → field_fits (record { key = k; must = false; kind = Kind.reals }) (real_if here x) ≡ real_fits here x
+  pub figure_in : (w : Maybe Float) → field_fits (record { key = k; must = false; kind = Kind.reals }) (real_if w) ≡ real_fits w
   unfolding within real_fits
-  figure_in here x = maybe_in k Kind.reals here (Value.figure x) (no_bits x)
+  figure_in w = maybe_in k Kind.reals w.here (Value.figure w.value) (no_bits w.value)
 
-  pub position_in : (w : MaybePosition) → field_fits (record { key = k; must = false; kind = Kind.positions }) (position_if w) ≡ position_fits w
+  pub position_in : (w : Maybe Position) → field_fits (record { key = k; must = false; kind = Kind.positions }) (position_if w) ≡ position_fits w
   unfolding within position_fits
   position_in w = maybe_in k Kind.positions w.here (position_value w.value) (no_position w.value)
 
-  pub station_in : (w : MaybeId) → field_fits (record { key = k; must = false; kind = station_id }) (id_if w) ≡ station_id_fits w
+  pub station_in : (w : Maybe ℤ) → field_fits (record { key = k; must = false; kind = station_id }) (id_if w) ≡ station_id_fits w
   unfolding within station_id_fits
   station_in w = maybe_in k station_id w.here (Value.number w.value) (is_zero w.value)
 
-  pub centre_in : (w : MaybeId) → field_fits (record { key = k; must = false; kind = centre_id }) (id_if w) ≡ centre_id_fits w
+  pub centre_in : (w : Maybe ℤ) → field_fits (record { key = k; must = false; kind = centre_id }) (id_if w) ≡ centre_id_fits w
   unfolding within centre_id_fits
   centre_in w = maybe_in k centre_id w.here (Value.number w.value) (is_zero w.value)
 

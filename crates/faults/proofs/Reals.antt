@@ -6,7 +6,8 @@ use lib.Ieee.{Float, nan, inf, fin, binary32, binary64, is_nan, to_bits, of_bits
 use lib.Ieee.Bits.{of_bits-to_bits}
 use Rattle.octets.proofs.Ranges.{is_true, true_is, true_false, both_left, both_right}
 use Rattle.number.specs.Number.{finite}
-use Rattle.message.specs.declared.MaybePosition.{MaybePosition}
+use Rattle.field.specs.declared.Position.{Position}
+use Rattle.message.specs.declared.Maybe.{Maybe}
 use Rattle.saying.specs.{Says.no_bits, Says.no_position, Fits.is_real, Fits.is_position}
 use Rattle.faults.specs.Code.Tests.{is_single, real_fits, position_fits}
 
@@ -60,16 +61,16 @@ zero_single x t =
     by_bits x (both_right (eqb (to_bits binary64 x) 0) (holds binary64 x) t) ∙ rw e zero_held
 
 -- where it is here, and where it is absent
-module _ (here r : Bool) (x : Float) where
-  pub real_here : here ≡ true → r ≡ is_real x → r ≡ real_fits here x
+module _ (x : Maybe Float) (r : Bool) where
+  pub real_here : x.here ≡ true → r ≡ is_real x.value → r ≡ real_fits x
   unfolding real_fits
   real_here e f = rw e f
 
-  pub real_absent : here ≡ false → r ≡ no_bits x → r ≡ real_fits here x
+  pub real_absent : x.here ≡ false → r ≡ no_bits x.value → r ≡ real_fits x
   unfolding real_fits
   real_absent e f = rw e f
 
-module _ (x : MaybePosition) (r : Bool) where
+module _ (x : Maybe Position) (r : Bool) where
   pub position_here : x.here ≡ true → r ≡ is_position x.value → r ≡ position_fits x
   unfolding position_fits
   position_here e f = rw e f

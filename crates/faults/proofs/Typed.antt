@@ -10,10 +10,10 @@ use denote.Struct.Declared.{row}
 use denote.Enum.Declared.{row as choiceRow}
 use borrow.Author.Tests.{le-leb}
 use Rattle.field.specs.Kind.{Kind, Value}
-use Rattle.message.specs.declared.MaybeVersion.{MaybeVersion}
+use Rattle.message.specs.declared.Version.{Version}
 use Rattle.saying.specs.Fits.{within}
 use Rattle.record.specs.declared.{Packet.Packet, Body.Body, Message.Message}
-use Rattle.message.specs.contracts.MaybeVersion as the-version
+use Rattle.message.specs.contracts.Version as the-version
 use Rattle.record.specs.contracts.Packet as the-packet
 use Rattle.record.specs.contracts.Body as the-body
 use Rattle.record.specs.contracts.Message as the-message
@@ -31,7 +31,7 @@ Whole hi x = within (Kind.wholes 0 hi) (Value.number (pos x)) ≡ true
 abbrev pub Signed : ℕ → ℤ → Type 0
 Signed hi z = within (Kind.wholes (suc hi) hi) (Value.number z) ≡ true
 
-abbrev pub Release : MaybeVersion → Type 0
+abbrev pub Release : Version → Type 0
 Release v = within Kind.versions (Value.release v.major v.minor v.patch) ≡ true
 
 whole : (hi x : ℕ) → x < suc hi → Whole hi x
@@ -43,7 +43,7 @@ unfolding within
 signed hi (pos n) h = le-leb n hi (omega arith)
 signed hi (negsuc k) h = le-leb (suc k) (suc hi) h
 
-release : (v : MaybeVersion) → v.major < 65536 → v.minor < 65536 → v.patch < 65536 → Release v
+release : (v : Version) → v.major < 65536 → v.minor < 65536 → v.patch < 65536 → Release v
 unfolding within
 release v p q r = rw (le-leb v.major 65535 (omega arith), le-leb v.minor 65535 (omega arith), le-leb v.patch 65535 (omega arith))
 
@@ -59,8 +59,8 @@ PacketSure p =
     × Whole 0xFFFFFFFF p.packet_cnt
 
 abbrev pub Sure : Body → Type 0
-Sure (Body.Con x) = Release x.version × Whole word64 x.bs_eui
-Sure (Body.ConRsp x) = Release x.version × Whole word64 x.sc_eui
+Sure (Body.Con x) = Release x.version.value × Whole word64 x.bs_eui
+Sure (Body.ConRsp x) = Release x.version.value × Whole word64 x.sc_eui
 Sure (Body.StatusRsp x) = Signed 0x7FFFFFFF x.code × Whole word64 x.time × Whole word64 x.uptime.value
 Sure (Body.Det x) = PacketSure x.packet
 Sure (Body.DetRsp sign) = Unit {0}
@@ -70,8 +70,8 @@ Sure (Body.UlData x) = PacketSure x.packet × Whole 0xFF x.format
 Sure (Body.DlDataQue x) = Whole word64 x.ep_eui × Whole word64 x.que_id × Whole 0xFF x.format
 Sure (Body.Bare c) = Unit {0}
 
-of_version : (v : MaybeVersion) (vs : List Val) → Is (row the-version.the_type) v vs → Release v
-of_version v vs g = release v g.1.1.1.0.1 g.1.1.1.1.0.1 g.1.1.1.1.1.0.1
+of_version : (v : Version) (vs : List Val) → Is (row the-version.the_type) v vs → Release v
+of_version v vs g = release v g.1.1.0.1 g.1.1.1.0.1 g.1.1.1.1.0.1
 
 of_packet : (p : Packet) (vs : List Val) → Is (row the-packet.the_type) p vs → PacketSure p
 of_packet p vs g = (
@@ -84,10 +84,10 @@ of_packet p vs g = (
 sure : (b : Body) (vs : List Val) → TypedBody b vs → Sure b
 sure (Body.Con x) vs g =
     let f = g.1.1.1.1.0.1.1 in
-    (of_version x.version _ f.0, whole word64 x.bs_eui f.1.0.1)
+    (of_version x.version.value _ f.0.1.1.1.0, whole word64 x.bs_eui f.1.0.1)
 sure (Body.ConRsp x) vs g =
     let f = g.1.1.1.1.0.1.1 in
-    (of_version x.version _ f.0, whole word64 x.sc_eui f.1.0.1)
+    (of_version x.version.value _ f.0.1.1.1.0, whole word64 x.sc_eui f.1.0.1)
 sure (Body.StatusRsp x) vs g =
     let f = g.1.1.1.1.0.1.1 in
     (signed 0x7FFFFFFF x.code f.0.1, whole word64 x.time f.1.1.0.1, whole word64 x.uptime.value f.1.1.1.1.1.0.1.1.1.0.1)

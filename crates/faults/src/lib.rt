@@ -137,10 +137,6 @@ fn packet_fault(p: record::Packet) -> u8
 {
     let duration = p.rx_duration;
     let signal = p.signal;
-    let eq_snr = message::MaybeReal {
-        here: signal.has_eq_snr,
-        value: signal.eq_snr,
-    };
     let profile = p.profile;
     if !part::maybe_word(duration) {
         return listed::RX_DURATION + 1;
@@ -151,7 +147,7 @@ fn packet_fault(p: record::Packet) -> u8
     if !part::is_real(signal.rssi) {
         return listed::RSSI + 1;
     }
-    if !part::maybe_real(eq_snr) {
+    if !part::maybe_real(signal.eq_snr) {
         return listed::EQ_SNR + 1;
     }
     if !part::tail(profile, p.profile_len) {

@@ -4,7 +4,7 @@ ghost use Rattle.saying.specs.{Says.no_bits, Says.no_position, Fits.is_real, Fit
 ghost use Rattle.faults.specs.Code.Tests.{is_single, real_fits, word_fits, mark_fits, station_id_fits, centre_id_fits, version_fits, position_fits, tail_fits, lent_fits};
 
 use field::Position;
-use message::MaybeId;
+use message::{Maybe, Version};
 use number::narrow::fits_single;
 
 // Of a real's 64 bits: the sign's weight, the exponent's, and the exponent of one that is not finite.
@@ -53,8 +53,8 @@ pub fn no_bits(x: f64) -> bool
     f64::to_bits(x) == 0
 }
 
-pub fn maybe_real(x: message::MaybeReal) -> bool
-    ensures { result ≡ real_fits x.here x.value }
+pub fn maybe_real(x: Maybe<f64>) -> bool
+    ensures { result ≡ real_fits x }
 {
     if x.here {
         is_real(x.value)
@@ -63,36 +63,37 @@ pub fn maybe_real(x: message::MaybeReal) -> bool
     }
 }
 
-pub fn maybe_word(x: message::MaybeWord) -> bool
+pub fn maybe_word(x: Maybe<u64>) -> bool
     ensures { result ≡ word_fits x }
 {
     x.here | (x.value == 0)
 }
 
-pub fn maybe_mark(x: message::MaybeMark) -> bool
+pub fn maybe_mark(x: Maybe<bool>) -> bool
     ensures { result ≡ mark_fits x }
 {
     x.here | !x.value
 }
 
 // From zero on.
-pub fn station_id(x: MaybeId) -> bool
+pub fn station_id(x: Maybe<i64>) -> bool
     ensures { result ≡ station_id_fits x }
 {
     if x.here { 0 <= x.value } else { x.value == 0 }
 }
 
 // Up to zero.
-pub fn centre_id(x: MaybeId) -> bool
+pub fn centre_id(x: Maybe<i64>) -> bool
     ensures { result ≡ centre_id_fits x }
 {
     if x.here { x.value <= 0 } else { x.value == 0 }
 }
 
-pub fn maybe_version(x: message::MaybeVersion) -> bool
+pub fn maybe_version(x: Maybe<Version>) -> bool
     ensures { result ≡ version_fits x }
 {
-    x.here | ((x.major == 0) & ((x.minor == 0) & (x.patch == 0)))
+    let v = x.value;
+    x.here | ((v.major == 0) & ((v.minor == 0) & (v.patch == 0)))
 }
 
 fn is_position(x: Position) -> bool
@@ -107,7 +108,7 @@ fn no_position(x: Position) -> bool
     no_bits(x.latitude) & (no_bits(x.longitude) & no_bits(x.altitude))
 }
 
-pub fn maybe_position(x: message::MaybePosition) -> bool
+pub fn maybe_position(x: Maybe<Position>) -> bool
     ensures { result ≡ position_fits x }
 {
     let p = x.value;

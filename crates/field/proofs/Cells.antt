@@ -1,54 +1,62 @@
 -- A field by its place, each law in the shape of a need of the code. Assumes nothing.
-use mathlib.Core.Path.{◌≡◌, refl, ap, ◌∙◌}
+use mathlib.Core.Path.{◌≡◌, refl, sym, ap, ◌∙◌}
 use mathlib.Core.List.{List}
-use Prim.Native.Nat.{ℕ, zero, suc, ◌+◌, ◌≤◌, ◌<◌}
+use mathlib.Core.Option as maybe
+use Prim.Native.Nat.{ℕ, zero, suc}
 use native.Mathlib.Omega.{arith}
-use Rattle.field.specs.declared.{Judged.Judged, Located.Located, Released.Released}
-use Rattle.field.specs.{Kind.Kind, Judge.judge, Cell.Cell, Cell.judged, Cell.value_in, Cell.word_of, Cell.zero64}
-use Rattle.field.specs.{Code.Told.told_of, Code.Told.located_of, Code.Told.released_of, Code.At.shallow_at, Code.At.seen_at, Code.At.cell_at}
-use Rattle.field.specs.Code.Read.{tell_of, read_at, unlocated, located_by, unreleased, released_by}
+use Rattle.std.specs.Prelude.{Option, Result, Ok, Err, ok_or}
+use Rattle.field.specs.declared.Flaw.{Flaw, TheVariants.Invalid, TheVariants.Missing, TheVariants.Twice}
+use Rattle.field.specs.{Kind.Kind, Kind.Value, Judge.judge, Cell.Cell, Cell.judged, Cell.value_in, Cell.word_of}
+use Rattle.field.specs.{Code.Told.told_of, Code.At.seen_at, Code.At.cell_at, Code.Read.tell, Code.Read.read_at, Code.Read.place_of}
 
--- a cell that is handed on by f: its value has no one place, or is looked at
-module _ {A : Type 0} (f : Cell → A) (k : Kind) (s : List ℕ) where
-  by_absent : (p : ℕ) (r : ℕ → A) → p < 2 → r 2 ≡ f Cell.missing → r 3 ≡ f Cell.double → r (2 + p) ≡ f (cell_at k s p)
-  unfolding cell_at
-  by_absent zero r h m d = m
-  by_absent (suc zero) r h m d = d
-  by_absent (suc (suc p)) r h m d = absurd (omega arith)
+-- a place that a field has is its own
+pub place_is : (p : ℕ) (o : Result ℕ Flaw) → o ≡ place_of p → (q : ℕ) → o ≡ Ok q → q ≡ p
+place_is p o e q y = go p (sym y ∙ e)
+  where
+    go : (p : ℕ) → Ok q ≡ place_of p → q ≡ p
+    go zero z = absurd (let i : ◌≡◌ {A = ℕ} 0 1 = cc in omega arith)
+    go (suc zero) z = absurd (let i : ◌≡◌ {A = ℕ} 0 1 = cc in omega arith)
+    go (suc (suc p)) z = cc
 
-  by_there : (p : ℕ) (r : A) → 2 ≤ p → r ≡ f (judged (judge k (seen_at k s p))) → r ≡ f (cell_at k s p)
-  unfolding cell_at
-  by_there zero r h q = absurd (omega arith)
-  by_there (suc zero) r h q = absurd (omega arith)
-  by_there (suc (suc p)) r h q = q
+module _ {A : Type 0} (f : Value → A) (k : Kind) (s : List ℕ) where
+  told_by : (o : maybe.Option Value) → ok_or (tell f o) Invalid ≡ told_of f (judged o)
+  unfolding tell
+  told_by maybe.none = refl
+  told_by (maybe.some v) = refl
 
-module _ (k : Kind) (s : List ℕ) (p : ℕ) where
-  module _ (r : Judged) where
-    pub cell_absent : p < 2 → r ≡ record { state = 2 + p; word = 0; figure = zero64 } → r ≡ told_of (cell_at k s p)
-    cell_absent h q = q ∙ by_absent told_of k s p (λ n. record { state = n; word = 0; figure = zero64 }) h refl refl
+  module _ (p : ℕ) (o : Result ℕ Flaw) (e : o ≡ place_of p) where
+    -- its value has no one place
+    pub cell_absent : (x : Flaw) → o ≡ Err x → Err x ≡ told_of f (cell_at k s p)
+    unfolding cell_at
+    cell_absent x y = go p (sym y ∙ e)
+      where
+        go : (p : ℕ) → Err x ≡ place_of p → Err x ≡ told_of f (cell_at k s p)
+        go zero z = let i : x ≡ Missing = cc in ap (λ (y : Flaw). Err y) i
+        go (suc zero) z = let i : x ≡ Twice = cc in ap (λ (y : Flaw). Err y) i
+        go (suc (suc p)) z = absurd (let i : ◌≡◌ {A = ℕ} 0 1 = cc in omega arith)
 
-    pub cell_there : 2 ≤ p → r ≡ read_at k s p → r ≡ told_of (cell_at k s p)
-    unfolding read_at tell_of
-    cell_there h q = by_there told_of k s p r h q
+    -- it is looked at
+    pub cell_there : (q : ℕ) → o ≡ Ok q → (x : Option A) → x ≡ read_at f k s q → (r : Result A Flaw) → r ≡ ok_or x Invalid → r ≡ told_of f (cell_at k s p)
+    unfolding cell_at read_at
+    cell_there q y x g r h = h ∙ ap (λ (i : Option A). ok_or i Invalid) (g ∙ ap (λ (i : ℕ). tell f (judge k (seen_at k s i))) (place_is p o e q y)) ∙ go p (sym y ∙ e)
+      where
+        go : (p : ℕ) → Ok q ≡ place_of p → ok_or (tell f (judge k (seen_at k s p))) Invalid ≡ told_of f (cell_at k s p)
+        go zero z = absurd (let i : ◌≡◌ {A = ℕ} 0 1 = cc in omega arith)
+        go (suc zero) z = absurd (let i : ◌≡◌ {A = ℕ} 0 1 = cc in omega arith)
+        go (suc (suc p)) z = told_by (judge k (seen_at k s (suc (suc p))))
 
-  module _ (n : ℕ) (e : n ≡ 2 + p) where
-    pub located_absent : (r : Located) → p < 2 → r ≡ unlocated n → r ≡ located_of (cell_at k s p)
-    located_absent r h q = q ∙ ap unlocated e ∙ by_absent located_of k s p unlocated h refl refl
-
-    pub released_absent : (r : Released) → p < 2 → r ≡ unreleased n → r ≡ released_of (cell_at k s p)
-    released_absent r h q = q ∙ ap unreleased e ∙ by_absent released_of k s p unreleased h refl refl
-
-module _ (s : List ℕ) (p : ℕ) (h : 2 ≤ p) where
-  pub located_there : (r : Located) → r ≡ located_by (judge Kind.positions (shallow_at s p)) → r ≡ located_of (cell_at Kind.positions s p)
-  unfolding located_by
-  located_there r q = by_there located_of Kind.positions s p r h q
-
-  pub released_there : (r : Released) → r ≡ released_by (judge Kind.versions (shallow_at s p)) → r ≡ released_of (cell_at Kind.versions s p)
-  unfolding released_by
-  released_there r q = by_there released_of Kind.versions s p r h q
+pub ruleset cells = (cell_absent, cell_there)
 
 -- what a caller learns of the word: it is the value's
-pub told_word : (r : Judged) (x : Cell) → r ≡ told_of x → r.word ≡ word_of (value_in x)
-told_word r x e = ap (λ (j : Judged). j.word) e
+pub told_word : (r : Result ℕ Flaw) (x : Cell) → r ≡ told_of word_of x → (n : ℕ) → r ≡ Ok n → n ≡ word_of (value_in x)
+told_word r Cell.missing e n y = absurd (let i : ◌≡◌ {A = ℕ} 0 1 = cc in omega arith)
+told_word r Cell.double e n y = absurd (let i : ◌≡◌ {A = ℕ} 0 1 = cc in omega arith)
+told_word r Cell.bad e n y = absurd (let i : ◌≡◌ {A = ℕ} 0 1 = cc in omega arith)
+told_word r (Cell.good v) e n y = cc
 
-pub ruleset cells = (cell_absent, cell_there, located_absent, released_absent, located_there, released_there)
+-- and where there is none, that its value is nothing
+pub told_nothing : (r : Result ℕ Flaw) (x : Cell) → r ≡ told_of word_of x → (f : Flaw) → r ≡ Err f → value_in x ≡ Value.nothing
+told_nothing r Cell.missing e f y = refl
+told_nothing r Cell.double e f y = refl
+told_nothing r Cell.bad e f y = refl
+told_nothing r (Cell.good v) e f y = absurd (let i : ◌≡◌ {A = ℕ} 0 1 = cc in omega arith)

@@ -11,12 +11,14 @@ use borrow.Author.Tests.{leb-true}
 use Rattle.octets.specs.{Choice.either, Bytes.put_at, Pieces.counter_bytes, Pieces.lengths_of, Pieces.strung, Pieces.downlink_bytes}
 use Rattle.octets.proofs.{Pieces.downlink_put, Writing.put_none, Writing.length_put}
 use Rattle.element.specs.Meaning.{Element, Elements}
-use Rattle.field.specs.declared.{Judged.Judged, Extent.Extent}
+use Rattle.std.specs.Prelude.{Option as Answer, Some, None}
+use Rattle.std.specs.Prelude.{Result, Ok, Err}
+use Rattle.field.specs.declared.{Extent.Extent, Flaw.Flaw}
 use Rattle.field.specs.{Kind.Kind, Kind.Value, Cell.judged, Cell.value_in, Cell.word_of, Cell.views_of}
 use Rattle.field.specs.Judge.{on_some, parts_of, naturals_in, pieces_in, counts_sized, strings_sized, judge}
-use Rattle.field.specs.{Code.Told.told_of, Code.At.leaves_from, Code.At.shallow_at, Code.At.nested_at, Code.At.seen_at, Code.At.cell_at, Code.Extent.parts_by, Code.Extent.Lists}
+use Rattle.field.specs.{Code.Told.told_of, Code.At.shallow_at, Code.At.nested_at, Code.At.seen_at, Code.At.cell_at, Code.Extent.parts_in, Code.Extent.Lists}
 use Rattle.field.specs.Code.{Item.is_some, Item.naturals_from, Item.pieces_from, Lent.list_in, Lent.counters_at, Lent.entries_at, Lent.AreCounters, Lent.AreEntries, Lent.entries_put}
-use Rattle.field.proofs.{Cells.told_word, Arrays.length_naturals, Arrays.by_parts, Entries.length_pieces, Entries.judged_by}
+use Rattle.field.proofs.{Cells.told_word, Cells.told_nothing, Arrays.length_naturals, Arrays.by_parts, Naturals.naturals_zero, Entries.length_pieces, Entries.judged_by}
 
 -- what a cell of no value holds
 no_counts : (v : Value) → word_of v ≤ 0 → (views_of v).counts ≡ []
@@ -107,7 +109,7 @@ module _ (many all : ℕ) where
       parts (some es) = arrays (pieces_in most es)
 
 -- counters that a cell tells stand behind the head of its array
-module _ (s : List ℕ) (p : ℕ) (a : Extent) (y : Lists s p a) (n : ℕ) (e : n ≡ word_of (value_in (cell_at (Kind.counters 16) s p))) (h : 0 < n) where
+module _ (s : List ℕ) (p : ℕ) (g : Answer Extent) (y : Lists s p g) (n : ℕ) (e : n ≡ word_of (value_in (cell_at (Kind.counters 16) s p))) (h : 0 < n) where
   abbrev counters_cell : Value
   counters_cell = value_in (cell_at (Kind.counters 16) s p)
 
@@ -117,55 +119,82 @@ module _ (s : List ℕ) (p : ℕ) (a : Extent) (y : Lists s p a) (n : ℕ) (e : 
   no_counters : {A : Type 0} → judge (Kind.counters 16) (shallow_at s p) ≡ none → A
   no_counters q = let z : word_of counters_cell ≡ 0 = ap word_of (counters_told none q) in absurd (omega arith)
 
-  counters_sized : (ns : List ℕ) → counters_at s a.size a.from ≡ some ns → (b : Bool) → judge (Kind.counters 16) (shallow_at s p) ≡ either b (λ _. some (Value.counts ns)) (λ _. none)
+  counters_sized : (a : Extent) (ns : List ℕ) → counters_at s a.size a.from ≡ some ns → (b : Bool) → judge (Kind.counters 16) (shallow_at s p) ≡ either b (λ _. some (Value.counts ns)) (λ _. none)
       → counters_at s n a.from ≡ some (counters counters_cell)
-  counters_sized ns f true q =
+  counters_sized a ns f true q =
       let v : counters_cell ≡ Value.counts ns = counters_told (some (Value.counts ns)) q in
       let m : n ≡ a.size = e ∙ ap word_of v ∙ length_naturals 0xFFFFFFFF s a.size a.from ns f in
       ap (λ (k : ℕ). counters_at s k a.from) m ∙ f ∙ ap some (sym (ap counters v))
-  counters_sized ns f false q = no_counters q
+  counters_sized a ns f false q = no_counters q
 
-  counters_are : (o : Option (List ℕ)) → counters_at s a.size a.from ≡ o → judge (Kind.counters 16) (shallow_at s p) ≡ on_some o (counts_sized 16)
+  counters_are : (a : Extent) (o : Option (List ℕ)) → counters_at s a.size a.from ≡ o → judge (Kind.counters 16) (shallow_at s p) ≡ on_some o (counts_sized 16)
       → counters_at s n a.from ≡ some (counters counters_cell)
-  counters_are none f q = no_counters q
-  counters_are (some ns) f q = counters_sized ns f (leb (length ns) 16) q
+  counters_are a none f q = no_counters q
+  counters_are a (some ns) f q = counters_sized a ns f (leb (length ns) 16) q
 
-  counters_by : (t : Bool) → a.there ≡ t → judge (Kind.counters 16) (shallow_at s p) ≡ on_some (parts_by t (leaves_from s a.size a.from)) (λ es. on_some (naturals_in 0xFFFFFFFF es) (counts_sized 16))
+  counters_by : (t : Answer Extent) → g ≡ t → judge (Kind.counters 16) (shallow_at s p) ≡ on_some (parts_in s t) (λ es. on_some (naturals_in 0xFFFFFFFF es) (counts_sized 16))
   unfolding judge
-  counters_by t u = sym (by_parts s p a y t u (λ es. on_some (naturals_in 0xFFFFFFFF es) (counts_sized 16)))
+  counters_by t u = sym (by_parts s p g y t u (λ es. on_some (naturals_in 0xFFFFFFFF es) (counts_sized 16)))
 
-  counters_in : (t : Bool) → a.there ≡ t → counters_at s n a.from ≡ some (counters counters_cell)
+  -- so there is one
+  pub counters_never : {A : Type 0} → g ≡ None → A
+  counters_never u = no_counters (counters_by None u)
+
+  counters_found : (a : Extent) → g ≡ Some a → counters_at s n a.from ≡ some (counters counters_cell)
   unfolding naturals_from
-  counters_in true u = counters_are (counters_at s a.size a.from) refl (counters_by true u)
-  counters_in false u = no_counters (counters_by false u)
+  counters_found a u = counters_are a (counters_at s a.size a.from) refl (counters_by (Some a) u)
 
-  counters_found : counters_at s n a.from ≡ some (counters counters_cell)
-  counters_found = counters_in a.there refl
-
-  pub counters_there : AreCounters s n a.from
-  counters_there = record {
-    there = ap is_some counters_found;
-    few = omega (arith, few_counters 16 s p, length_naturals 0xFFFFFFFF s n a.from (counters counters_cell) counters_found);
+  pub counters_there : (a : Extent) → g ≡ Some a → AreCounters s n a.from
+  counters_there a u = record {
+    there = ap is_some (counters_found a u);
+    few = omega (arith, few_counters 16 s p, length_naturals 0xFFFFFFFF s n a.from (counters counters_cell) (counters_found a u));
   }
 
-  pub counters_put : (room out : List ℕ) → out ≡ put_at room 0 (counter_bytes (list_in (counters_at s n a.from))) → out ≡ put_at room 0 (counter_bytes (views_of (value_in (cell_at (Kind.counters 16) s p))).counts)
-  counters_put room out f = f ∙ ap (λ (o : Option (List ℕ)). put_at room 0 (counter_bytes (list_in o))) counters_found
+  pub counters_put : (a : Extent) → g ≡ Some a → (room out : List ℕ) → out ≡ put_at room 0 (counter_bytes (list_in (counters_at s n a.from))) → out ≡ put_at room 0 (counter_bytes (views_of (value_in (cell_at (Kind.counters 16) s p))).counts)
+  counters_put a u room out f = f ∙ ap (λ (o : Option (List ℕ)). put_at room 0 (counter_bytes (list_in o))) (counters_found a u)
+
+by_size : {A : Type 0} (n : ℕ) → (n ≤ 0 → A) → (0 < n → A) → A
+by_size zero f g = f (omega arith)
+by_size (suc n) f g = g (omega arith)
 
 -- as its call tells them
-module _ (s : List ℕ) (p : ℕ) (c : Judged) (e : c ≡ told_of (cell_at (Kind.counters 16) s p)) where
-  module _ (a : Extent) (y : Lists s p a) (h : 0 < c.word) where
-    pub told_there : AreCounters s c.word a.from
-    told_there = counters_there s p a y c.word (told_word c (cell_at (Kind.counters 16) s p) e) h
+module _ (s : List ℕ) (p : ℕ) (c : Result ℕ Flaw) (e : c ≡ told_of word_of (cell_at (Kind.counters 16) s p)) where
+  abbrev cell : Value
+  cell = value_in (cell_at (Kind.counters 16) s p)
 
-    pub told_put : (room out : List ℕ) → out ≡ put_at room 0 (counter_bytes (list_in (counters_at s c.word a.from))) → out ≡ put_at room 0 (counter_bytes (views_of (value_in (cell_at (Kind.counters 16) s p))).counts)
-    told_put room out f = counters_put s p a y c.word (told_word c (cell_at (Kind.counters 16) s p) e) h room out f
+  abbrev CountersPut : List ℕ → List ℕ → Type 0
+  CountersPut room out = out ≡ put_at room 0 (counter_bytes (views_of (value_in (cell_at (Kind.counters 16) s p))).counts)
 
-  pub told_none : (room : List ℕ) → c.word ≤ 0 → room ≡ put_at room 0 (counter_bytes (views_of (value_in (cell_at (Kind.counters 16) s p))).counts)
+  none_put : (room : List ℕ) → word_of cell ≤ 0 → CountersPut room room
   unfolding counter_bytes
-  told_none room h =
-      sym (ap (λ (ns : List ℕ). put_at room 0 (counter_bytes ns)) (no_counts (value_in (cell_at (Kind.counters 16) s p)) (omega (arith, told_word c (cell_at (Kind.counters 16) s p) e))) ∙ put_none room 0)
+  none_put room h =
+      sym (ap (λ (ns : List ℕ). put_at room 0 (counter_bytes ns)) (no_counts cell h) ∙ put_none room 0)
 
-pub ruleset counters_told_in = (told_there, told_put, told_none, arith)
+  pub told_none : (f : Flaw) → c ≡ Err f → (room : List ℕ) → room ≡ put_at room 0 (counter_bytes (views_of (value_in (cell_at (Kind.counters 16) s p))).counts)
+  told_none f y room = let z : word_of cell ≡ 0 = ap word_of (told_nothing c (cell_at (Kind.counters 16) s p) e f y) in none_put room (omega arith)
+
+  module _ (n : ℕ) (k : c ≡ Ok n) (g : Answer Extent) (y : Lists s p g) where
+    is_word : n ≡ word_of cell
+    is_word = told_word c (cell_at (Kind.counters 16) s p) e n k
+
+    pub told_never : g ≡ None → (room : List ℕ) → room ≡ put_at room 0 (counter_bytes (views_of (value_in (cell_at (Kind.counters 16) s p))).counts)
+    told_never u room = by_size n (λ h. none_put room (omega (arith, is_word))) (λ h. counters_never s p g y n is_word h u)
+
+    module _ (a : Extent) (u : g ≡ Some a) where
+      pub told_there : AreCounters s n a.from
+      told_there =
+          by_size n (λ h. record { there = ap is_some (naturals_zero 0xFFFFFFFF s n a.from h); few = omega arith })
+          (λ h. counters_there s p g y n is_word h a u)
+
+      pub told_put : (room out : List ℕ) → out ≡ put_at room 0 (counter_bytes (list_in (counters_at s n a.from))) → out ≡ put_at room 0 (counter_bytes (views_of (value_in (cell_at (Kind.counters 16) s p))).counts)
+      told_put room out f =
+          by_size n
+          (λ h.
+          f ∙ ap (λ (o : Option (List ℕ)). put_at room 0 (counter_bytes (list_in o))) (naturals_zero 0xFFFFFFFF s n a.from h)
+          ∙ ap (λ (ns : List ℕ). put_at room 0 (counter_bytes ns)) (sym (no_counts cell (omega (arith, is_word)))))
+          (λ h. counters_put s p g y n is_word h a u room out f)
+
+pub ruleset counters_told_in = (told_there, told_put, told_none, told_never, arith)
 
 -- so do data entries
 module _ (s : List ℕ) (p n : ℕ) (e : n ≡ word_of (value_in (cell_at (Kind.pieces 16 245 800) s p))) where
@@ -177,47 +206,47 @@ module _ (s : List ℕ) (p n : ℕ) (e : n ≡ word_of (value_in (cell_at (Kind.
   entries_none room h =
       sym (ap (entries_put room 0 80) (no_strings entries_cell (omega arith)) ∙ put_none (put_at room 64 []) 80 ∙ put_none room 64)
 
-  module _ (a : Extent) (y : Lists s p a) (h : 0 < n) where
+  module _ (g : Answer Extent) (y : Lists s p g) (h : 0 < n) where
     entries_told : (o : Option Value) → judge (Kind.pieces 16 245 800) (nested_at s p) ≡ o → entries_cell ≡ value_in (judged o)
     entries_told o q = ap value_in (there (Kind.pieces 16 245 800) s p (omega arith) ∙ ap judged q)
 
     no_entries : {A : Type 0} → judge (Kind.pieces 16 245 800) (nested_at s p) ≡ none → A
     no_entries q = let z : word_of entries_cell ≡ 0 = ap word_of (entries_told none q) in absurd (omega arith)
 
-    entries_sized : (ds : List (List ℕ)) → entries_at s a.size a.from ≡ some ds → (b : Bool) → judge (Kind.pieces 16 245 800) (nested_at s p) ≡ either b (λ _. some (Value.strings ds)) (λ _. none)
+    entries_sized : (a : Extent) (ds : List (List ℕ)) → entries_at s a.size a.from ≡ some ds → (b : Bool) → judge (Kind.pieces 16 245 800) (nested_at s p) ≡ either b (λ _. some (Value.strings ds)) (λ _. none)
         → entries_at s n a.from ≡ some (entries entries_cell)
-    entries_sized ds f true q =
+    entries_sized a ds f true q =
         let v : entries_cell ≡ Value.strings ds = entries_told (some (Value.strings ds)) q in
         let m : n ≡ a.size = e ∙ ap word_of v ∙ length_pieces 245 s a.size a.from ds f in
         ap (λ (k : ℕ). entries_at s k a.from) m ∙ f ∙ ap some (sym (ap entries v))
-    entries_sized ds f false q = no_entries q
+    entries_sized a ds f false q = no_entries q
 
-    entries_are : (o : Option (List (List ℕ))) → entries_at s a.size a.from ≡ o → judge (Kind.pieces 16 245 800) (nested_at s p) ≡ on_some o (strings_sized 16 800)
+    entries_are : (a : Extent) (o : Option (List (List ℕ))) → entries_at s a.size a.from ≡ o → judge (Kind.pieces 16 245 800) (nested_at s p) ≡ on_some o (strings_sized 16 800)
         → entries_at s n a.from ≡ some (entries entries_cell)
-    entries_are none f q = no_entries q
-    entries_are (some ds) f q = entries_sized ds f (leb (length ds) 16 && leb (length (strung ds)) 800) q
+    entries_are a none f q = no_entries q
+    entries_are a (some ds) f q = entries_sized a ds f (leb (length ds) 16 && leb (length (strung ds)) 800) q
 
-    entries_in : (t : Bool) → a.there ≡ t → entries_at s n a.from ≡ some (entries entries_cell)
+    -- so there is one
+    pub entries_never : g ≡ None → (room : List ℕ) → room ≡ entries_put room 0 80 (views_of (value_in (cell_at (Kind.pieces 16 245 800) s p))).strings
+    entries_never u room = no_entries (sym (judged_by s p g y 16 245 800 None u))
+
+    entries_found : (a : Extent) → g ≡ Some a → entries_at s n a.from ≡ some (entries entries_cell)
     unfolding pieces_from
-    entries_in true u = entries_are (entries_at s a.size a.from) refl (sym (judged_by s p a y 16 245 800 true u))
-    entries_in false u = no_entries (sym (judged_by s p a y 16 245 800 false u))
+    entries_found a u = entries_are a (entries_at s a.size a.from) refl (sym (judged_by s p g y 16 245 800 (Some a) u))
 
-    entries_found : entries_at s n a.from ≡ some (entries entries_cell)
-    entries_found = entries_in a.there refl
-
-    pub entries_there : AreEntries s n a.from
-    entries_there =
+    pub entries_there : (a : Extent) → g ≡ Some a → AreEntries s n a.from
+    entries_there a u =
         let f = few_entries 16 800 245 s p in
         record {
-          there = ap is_some entries_found;
-          few = omega (arith, f.few, length_pieces 245 s n a.from (entries entries_cell) entries_found);
-          small = rw entries_found f.small;
+          there = ap is_some (entries_found a u);
+          few = omega (arith, f.few, length_pieces 245 s n a.from (entries entries_cell) (entries_found a u));
+          small = rw (entries_found a u) f.small;
         }
 
-    pub entries_put_lem : (room out : List ℕ) → out ≡ entries_put room 0 80 (list_in (entries_at s n a.from)) → out ≡ entries_put room 0 80 (views_of (value_in (cell_at (Kind.pieces 16 245 800) s p))).strings
-    entries_put_lem room out f = f ∙ ap (λ (o : Option (List (List ℕ))). entries_put room 0 80 (list_in o)) entries_found
+    pub entries_put_lem : (a : Extent) → g ≡ Some a → (room out : List ℕ) → out ≡ entries_put room 0 80 (list_in (entries_at s n a.from)) → out ≡ entries_put room 0 80 (views_of (value_in (cell_at (Kind.pieces 16 245 800) s p))).strings
+    entries_put_lem a u room out f = f ∙ ap (λ (o : Option (List (List ℕ))). entries_put room 0 80 (list_in o)) (entries_found a u)
 
-pub ruleset entries_told_in = (entries_there, entries_put_lem, entries_none, arith)
+pub ruleset entries_told_in = (entries_never, entries_there, entries_put_lem, entries_none, arith)
 
 -- zeros, the counters and the entries are the downlink's bytes
 module _ (s : List ℕ) (q p : ℕ) (room cleared counted out : List ℕ) (h : 880 ≤ length room) (e : cleared ≡ put_at room 0 (replicate 80 0)) where

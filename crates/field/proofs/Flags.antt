@@ -17,9 +17,9 @@ use Rattle.element.specs.Lead.{Class, class_of, head_of, lead_bytes, row_in}
 use Rattle.element.specs.{Meaning.Element, Meaning.leaf_of, Code.At.leaf_at}
 use Rattle.element.proofs.At.{by_span}
 use Rattle.walk.proofs.Leads.{row}
-use Rattle.field.specs.declared.Judged.{Judged}
+use Rattle.std.specs.Prelude.{Option as Answer, Some, None}
 use Rattle.field.specs.{Kind.Kind, Kind.Value, Judge.on_some, Judge.truth_of, Judge.judge}
-use Rattle.field.specs.Code.Read.{badly, well, tell_of, read_at}
+use Rattle.field.specs.{Cell.mark_of, Code.Read.tell, Code.Read.read_at}
 use Rattle.field.proofs.{Shallow.leaf_view, Shallow.leaf_all, Shallow.shallow_past, Heads.plain_ends}
 
 abbrev is_bool : Class → Bool
@@ -60,17 +60,17 @@ no_bool : (b : ℕ) → b < 256 → (b ≡ 0xC2 → ⊥) → (b ≡ 0xC3 → ⊥
 unfolding other row_in lead_bytes
 no_bool b h f g = simp (ne_eqb b 0xC2 f, ne_eqb b 0xC3 g) at (ranged other 0 256 tt b (omega arith) h)
 
-abbrev marked : Option Bool → Judged
-marked o = tell_of (on_some o (λ b. some (Value.mark b)))
+abbrev marked : Option Bool → Answer Bool
+marked o = tell mark_of (on_some o (λ b. some (Value.mark b)))
 
-module _ (s : List ℕ) (at : ℕ) (r : Judged) where
-  by_truth : (o : Option Bool) → truth_of (leaf_at s at) ≡ o → marked o ≡ read_at Kind.flags s at
+module _ (s : List ℕ) (at : ℕ) where
+  by_truth : (o : Option Bool) → truth_of (leaf_at s at) ≡ o → marked o ≡ read_at mark_of Kind.flags s at
   unfolding read_at judge
   by_truth o e = ap marked (sym (leaf_view s at truth_of (λ es. refl) refl ∙ e))
 
-  pub flag_past : r ≡ badly → length s ≤ at → r ≡ read_at Kind.flags s at
-  unfolding read_at judge tell_of
-  flag_past e h = e ∙ ap (λ (x : Element). marked (truth_of x)) (sym (shallow_past s at h))
+  pub flag_past : length s ≤ at → None ≡ read_at mark_of Kind.flags s at
+  unfolding read_at judge tell
+  flag_past h = ap (λ (x : Element). marked (truth_of x)) (sym (shallow_past s at h))
 
   module _ (there : at < length s) where
     flag_by : (b : ℕ) → get_or s at 0 ≡ b → row Plain 0 0 ≡ head_of b → (d : List ℕ) × (truth_of (leaf_at s at) ≡ truth_of (leaf_of (class_of b) b d))
@@ -81,17 +81,17 @@ module _ (s : List ℕ) (at : ℕ) (r : Judged) where
               ∙ ap (λ (x : ℕ). truth_of (leaf_of (class_of x) x d)) e,
         )
 
-    pub flag_false : r ≡ well 0 → get_or s at 0 ≡ 0xC2 → r ≡ read_at Kind.flags s at
-    unfolding row_in lead_bytes head_of tell_of
-    flag_false q e = q ∙ by_truth (some false) (flag_by 0xC2 e refl).1
+    pub flag_false : get_or s at 0 ≡ 0xC2 → Some false ≡ read_at mark_of Kind.flags s at
+    unfolding row_in lead_bytes head_of tell
+    flag_false e = by_truth (some false) (flag_by 0xC2 e refl).1
 
-    pub flag_true : r ≡ well 1 → get_or s at 0 ≡ 0xC3 → r ≡ read_at Kind.flags s at
-    unfolding row_in lead_bytes head_of tell_of
-    flag_true q e = q ∙ by_truth (some true) (flag_by 0xC3 e refl).1
+    pub flag_true : get_or s at 0 ≡ 0xC3 → Some true ≡ read_at mark_of Kind.flags s at
+    unfolding row_in lead_bytes head_of tell
+    flag_true e = by_truth (some true) (flag_by 0xC3 e refl).1
 
-    pub flag_none : r ≡ badly → ((k : ℕ) → Fits w8 (get_or s k 0)) → (get_or s at 0 ≡ 0xC2 → ⊥) → (get_or s at 0 ≡ 0xC3 → ⊥) → r ≡ read_at Kind.flags s at
-    unfolding tell_of
-    flag_none q told f g =
-        q ∙ by_truth none (leaf_all s at truth_of none refl (λ d. no_truth (class_of (get_or s at 0)) (get_or s at 0) d (no_bool (get_or s at 0) (told at).fits f g)))
+    pub flag_none : ((k : ℕ) → Fits w8 (get_or s k 0)) → (get_or s at 0 ≡ 0xC2 → ⊥) → (get_or s at 0 ≡ 0xC3 → ⊥) → None ≡ read_at mark_of Kind.flags s at
+    unfolding tell
+    flag_none told f g =
+        by_truth none (leaf_all s at truth_of none refl (λ d. no_truth (class_of (get_or s at 0)) (get_or s at 0) d (no_bool (get_or s at 0) (told at).fits f g)))
 
 pub ruleset flags = (flag_past, flag_false, flag_true, flag_none)

@@ -10,34 +10,38 @@ use borrow.Author.Tests.{le-leb, lt-leb, leb-true, ltb-true, ltb-false}
 use Rattle.octets.specs.Choice.{either}
 use Rattle.element.specs.declared.Span.{Span, TheVariants.Cut, TheVariants.Ends, TheVariants.Holds}
 use Rattle.element.specs.{Lead.class_of, Form.span_of, Meaning.Element, Meaning.Elements, Meaning.Element.null}
-use Rattle.field.specs.declared.Extent.{Extent}
-use Rattle.field.specs.declared.Piece.{Piece, TheVariants.Bytes, TheVariants.NoBytes}
-use Rattle.field.specs.Code.Extent.{parts_by, Lists}
+use Rattle.std.specs.Prelude.{Option as Answer, Some, None}
+use Rattle.field.specs.declared.{Extent.Extent, Piece.Piece}
+use Rattle.field.specs.Code.Extent.{parts_in, Lists}
 use Rattle.field.specs.Judge.{on_some, parts_of, octets_in, piece_in}
-use Rattle.field.specs.Code.At.{leaves_from, shallow_at, leaves_end, nested_end, nested_from, nested_by, nested_at}
+use Rattle.field.specs.Code.At.{shallow_at, leaves_end, nested_end, nested_from, nested_by, nested_at}
 use Rattle.field.specs.Code.Item.{naturals_from, octets_from, piece_by, octets_passed, piece_at}
 use Rattle.field.proofs.Shallow.{by_shallow, by_nested, shallow_past, leaf_all}
 use Rattle.field.proofs.Arrays.{no_parts, length_naturals}
 
+abbrev pub nested_in : List ℕ → Answer Extent → Option Elements
+nested_in s None = none
+nested_in s (Some e) = some (nested_from s e.size e.from)
+
 -- what it holds, one level further
-module _ (s : List ℕ) (at : ℕ) (a : Extent) (y : Lists s at a) where
+module _ (s : List ℕ) (at : ℕ) (a : Answer Extent) (y : Lists s at a) where
   -- where there is one, its byte is there
-  array_here : a.there ≡ true → at < length s
-  array_here t = go (ltb at (length s)) refl
+  array_here : (e : Extent) → a ≡ Some e → at < length s
+  array_here e t = go (ltb at (length s)) refl
     where
       go : (b : Bool) → ltb at (length s) ≡ b → at < length s
-      go true e = ltb-true at (length s) e
-      go false e =
-          let p = shallow_past s at (ltb-false at (length s) e) in
+      go true i = ltb-true at (length s) i
+      go false i =
+          let p = shallow_past s at (ltb-false at (length s) i) in
           let q = y.is in
-          absurd (let z : ◌≡◌ {A = ℕ} 0 1 = cc (ap parts_of p, q, ap (λ (b : Bool). parts_by b (leaves_from s a.size a.from)) t) in omega arith)
+          absurd (let z : ◌≡◌ {A = ℕ} 0 1 = cc (ap parts_of p, q, ap (parts_in s) t) in omega arith)
 
-  none_nested : a.there ≡ false → parts_of (nested_at s at) ≡ none
+  none_nested : a ≡ None → parts_of (nested_at s at) ≡ none
   unfolding nested_at
   none_nested t = go (ltb at (length s)) (span_of s at) refl refl
     where
       none_shallow : parts_of (shallow_at s at) ≡ none
-      none_shallow = y.is ∙ ap (λ (b : Bool). parts_by b (leaves_from s a.size a.from)) t
+      none_shallow = y.is ∙ ap (parts_in s) t
 
       go : (b : Bool) (x : Span) → ltb at (length s) ≡ b → span_of s at ≡ x → parts_of (either b (λ _. nested_by s at x) (λ _. null)) ≡ none
       go true Cut e f = refl
@@ -48,38 +52,38 @@ module _ (s : List ℕ) (at : ℕ) (a : Extent) (y : Lists s at a) where
           absurd (let z : ◌≡◌ {A = ℕ} 0 1 = cc (i, none_shallow) in omega arith)
       go false x e f = refl
 
-  pub nested_parts : (t : Bool) → a.there ≡ t → parts_of (nested_at s at) ≡ parts_by t (nested_from s a.size a.from)
-  nested_parts true t = ap parts_of (by_nested s at (Holds a.from a.size false) (array_here t) (y.span t))
-  nested_parts false t = none_nested t
+  pub nested_parts : (o : Answer Extent) → a ≡ o → parts_of (nested_at s at) ≡ nested_in s o
+  nested_parts (Some e) t = ap parts_of (by_nested s at (Holds e.from e.size false) (array_here e t) (y.span e t))
+  nested_parts None t = none_nested t
 
   -- one array of at most so many bytes
   module _ (most : ℕ) where
     abbrev at_most : List ℕ → Option (List ℕ)
     at_most d = either (leb (length d) most) (λ _. some d) (λ _. none)
 
-    piece_by_lem : (t : Bool) → a.there ≡ t → piece_in most (shallow_at s at) ≡ on_some (parts_by t (leaves_from s a.size a.from)) (λ es. on_some (octets_in es) at_most)
-    piece_by_lem t e = rw (y.is, e)
+    piece_by_lem : (o : Answer Extent) → a ≡ o → piece_in most (shallow_at s at) ≡ on_some (parts_in s o) (λ es. on_some (octets_in es) at_most)
+    piece_by_lem o e = rw (y.is, e)
 
-    pub piece_there : (x : Piece) → a.there ≡ true → a.size ≤ most → x ≡ octets_passed s a.size a.from → x ≡ piece_at most s at
+    pub piece_there : (e : Extent) → a ≡ Some e → e.size ≤ most → (x : Answer Piece) → x ≡ octets_passed s e.size e.from → x ≡ piece_at most s at
     unfolding piece_at octets_passed naturals_from
-    piece_there x t h e =
-        e ∙ sym (ap₂ piece_by (piece_by_lem true t) (ap (nested_end s at) (y.span t)) ∙ go (octets_from s a.size a.from) refl)
+    piece_there e t h x q =
+        q ∙ sym (ap₂ piece_by (piece_by_lem (Some e) t) (ap (nested_end s at) (y.span e t)) ∙ go (octets_from s e.size e.from) refl)
       where
-        go : (o : Option (List ℕ)) → octets_from s a.size a.from ≡ o → piece_by (on_some o at_most) (leaves_end s a.size a.from) ≡ piece_by o (leaves_end s a.size a.from)
+        go : (o : Option (List ℕ)) → octets_from s e.size e.from ≡ o → piece_by (on_some o at_most) (leaves_end s e.size e.from) ≡ piece_by o (leaves_end s e.size e.from)
         go none q = refl
-        go (some d) q = simp (le-leb (length d) most (omega (arith, length_naturals 255 s a.size a.from d q)))
+        go (some d) q = simp (le-leb (length d) most (omega (arith, length_naturals 255 s e.size e.from d q)))
 
-    pub piece_long : a.there ≡ true → most < a.size → NoBytes ≡ piece_at most s at
+    pub piece_long : (e : Extent) → a ≡ Some e → most < e.size → None ≡ piece_at most s at
     unfolding piece_at naturals_from
-    piece_long t h = sym (ap (λ (o : Option (List ℕ)). piece_by o (nested_end s at (span_of s at))) (piece_by_lem true t ∙ go (octets_from s a.size a.from) refl))
+    piece_long e t h = sym (ap (λ (o : Option (List ℕ)). piece_by o (nested_end s at (span_of s at))) (piece_by_lem (Some e) t ∙ go (octets_from s e.size e.from) refl))
       where
-        go : (o : Option (List ℕ)) → octets_from s a.size a.from ≡ o → on_some o at_most ≡ none
+        go : (o : Option (List ℕ)) → octets_from s e.size e.from ≡ o → on_some o at_most ≡ none
         go none q = refl
-        go (some d) q = simp (lt-leb (length d) most (omega (arith, length_naturals 255 s a.size a.from d q)))
+        go (some d) q = simp (lt-leb (length d) most (omega (arith, length_naturals 255 s e.size e.from d q)))
 
-    pub piece_not : a.there ≡ false → NoBytes ≡ piece_at most s at
+    pub piece_not : a ≡ None → None ≡ piece_at most s at
     unfolding piece_at
-    piece_not t = sym (ap (λ (o : Option (List ℕ)). piece_by o (nested_end s at (span_of s at))) (piece_by_lem false t))
+    piece_not t = sym (ap (λ (o : Option (List ℕ)). piece_by o (nested_end s at (span_of s at))) (piece_by_lem None t))
 
 pub ruleset piece_ats = (piece_there, piece_long, piece_not, arith)
 
@@ -110,20 +114,20 @@ pub piece_wide : (e : Element) (d : List ℕ) → IsPiece e d → (most : ℕ) �
 piece_wide e d y most h = simp (y.there, y.bytes, le-leb (length d) most h)
 
 -- what is said of an array
-module _ (most : ℕ) (s : List ℕ) (q : ℕ) (x : Piece) (e : x ≡ piece_at most s q) where
-  pub piece_is : (size next : ℕ) → x ≡ Bytes size next → (d : List ℕ) × (piece_in most (shallow_at s q) ≡ some d) × (length d ≡ size) × (nested_end s q (span_of s q) ≡ next)
+module _ (most : ℕ) (s : List ℕ) (q : ℕ) (x : Answer Piece) (e : x ≡ piece_at most s q) where
+  pub piece_is : (p : Piece) → x ≡ Some p → (d : List ℕ) × (piece_in most (shallow_at s q) ≡ some d) × (length d ≡ p.size) × (nested_end s q (span_of s q) ≡ p.next)
   unfolding piece_at
-  piece_is size next f = go (piece_in most (shallow_at s q)) refl (sym e ∙ f)
+  piece_is p f = go (piece_in most (shallow_at s q)) refl (sym e ∙ f)
     where
-      go : (o : Option (List ℕ)) → piece_in most (shallow_at s q) ≡ o → piece_by o (nested_end s q (span_of s q)) ≡ Bytes size next
-          → (d : List ℕ) × (piece_in most (shallow_at s q) ≡ some d) × (length d ≡ size) × (nested_end s q (span_of s q) ≡ next)
+      go : (o : Option (List ℕ)) → piece_in most (shallow_at s q) ≡ o → piece_by o (nested_end s q (span_of s q)) ≡ Some p
+          → (d : List ℕ) × (piece_in most (shallow_at s q) ≡ some d) × (length d ≡ p.size) × (nested_end s q (span_of s q) ≡ p.next)
       go none i g = absurd (let z : ◌≡◌ {A = ℕ} 0 1 = cc in omega arith)
-      go (some d) i g = (d, i, (cc), (cc))
+      go (some d) i g = let z : record { size = length d; next = nested_end s q (span_of s q) } ≡ p = cc in (d, i, ap (λ (y : Piece). y.size) z, ap (λ (y : Piece). y.next) z)
 
-  pub piece_none : x ≡ NoBytes → piece_in most (shallow_at s q) ≡ none
+  pub piece_none : x ≡ None → piece_in most (shallow_at s q) ≡ none
   unfolding piece_at
   piece_none f = go (piece_in most (shallow_at s q)) (sym e ∙ f)
     where
-      go : (o : Option (List ℕ)) → piece_by o (nested_end s q (span_of s q)) ≡ NoBytes → o ≡ none
+      go : (o : Option (List ℕ)) → piece_by o (nested_end s q (span_of s q)) ≡ None → o ≡ none
       go none g = refl
       go (some d) g = absurd (let z : ◌≡◌ {A = ℕ} 0 1 = cc in omega arith)

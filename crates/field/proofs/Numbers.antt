@@ -1,7 +1,7 @@
 -- Whole numbers under a kind: each law in the shape of a need of the code. A whole below 0 is -1 - k, and its 64 bits are those of k turned.
 -- Assumes nothing.
 use mathlib.Core.Path.{◌≡◌, refl, sym, ap, ◌∙◌}
-use mathlib.Core.{Bool.Bool, Bool.true, Bool.false, List.List}
+use mathlib.Core.{Bool.true, Bool.false, List.List}
 use Prim.Native.Nat.{ℕ, suc, ◌+◌, ◌-◌, ◌^◌, ◌≤◌, ◌<◌}
 use native.Mathlib.Omega.{arith}
 use lib.{Dec.T, ListN.length, ListN.get_or, Signed.lt_z, Signed.mag, Signed.non_neg}
@@ -12,39 +12,38 @@ use mir.Val.{to_z, of_z, SFits, Fits}
 use mir.ValLaws.{to_z-of_z}
 use borrow.Author.Tests.{le-leb, lt-leb, le-ltb, ltb-true}
 use Rattle.element.specs.Code.At.{leaf_at}
-use Rattle.number.specs.declared.Number.{Number, TheVariants.Signed, TheVariants.Unsigned, TheVariants.Real, TheVariants.Not}
-use Rattle.number.specs.{Number.number_of, Code.Body.given}
-use Rattle.number.proofs.Reading.{past, small_is, unsigned_is, byte_wide}
-use Rattle.octets.specs.Number.{big_at, is_there, if_there}
+use Rattle.number.specs.declared.Number.{Number, TheVariants.Signed, TheVariants.Unsigned, TheVariants.Real}
+use Rattle.number.specs.{Number.Found, Number.number_of, Code.Body.bits_at}
+use Rattle.number.proofs.Reading.{Reads, upward, past, small_is, unsigned1, unsigned2, unsigned4, unsigned8, byte_wide}
 use Rattle.octets.proofs.Ranges.{true_false}
-use Rattle.field.specs.declared.Judged.{Judged}
-use Rattle.field.specs.{Kind.Kind, Judge.whole_in, Judge.judge, Code.At.shallow_at}
-use Rattle.field.specs.Code.Read.{badly, well, tell_of, read_at}
+use Rattle.std.specs.Prelude.{Option as Answer, Some, None}
+use Rattle.field.specs.{Kind.Kind, Judge.whole_in, Judge.judge, Cell.word_of, Code.At.shallow_at}
+use Rattle.field.specs.Code.Read.{tell, read_at}
 use Rattle.field.proofs.Shallow.{leaf_view}
 
 -- the number at a place is the leaf's
 pub number_there : (s : List ℕ) (at : ℕ) → number_of (shallow_at s at) ≡ number_of (leaf_at s at)
 number_there s at = leaf_view s at number_of (λ es. refl) refl
 
-module _ (r : Judged) (hi n : ℕ) where
-  pub upto_good : r ≡ well n → n ≤ hi → r ≡ tell_of (whole_in 0 hi (Unsigned n))
-  unfolding tell_of
-  upto_good e h = e ∙ simp (le-leb n hi h)
+module _ (hi n : ℕ) where
+  pub upto_good : n ≤ hi → Some n ≡ tell word_of (whole_in 0 hi (Some (Unsigned n)))
+  unfolding tell
+  upto_good h = simp (le-leb n hi h)
 
-  pub upto_bad : r ≡ badly → hi < n → r ≡ tell_of (whole_in 0 hi (Unsigned n))
-  unfolding tell_of
-  upto_bad e h = e ∙ simp (lt-leb n hi h)
+  pub upto_bad : hi < n → None ≡ tell word_of (whole_in 0 hi (Some (Unsigned n)))
+  unfolding tell
+  upto_bad h = simp (lt-leb n hi h)
 
-module _ (r : Judged) (lo k : ℕ) where
-  pub below_good : r ≡ well (2 ^ 64 - 1 - k) → k < lo → r ≡ tell_of (whole_in lo 0 (Signed (negsuc k)))
-  unfolding tell_of
-  below_good e h =
+module _ (lo k : ℕ) where
+  pub below_good : k < lo → Some (2 ^ 64 - 1 - k) ≡ tell word_of (whole_in lo 0 (Some (Signed (negsuc k))))
+  unfolding tell
+  below_good h =
       let b : 2 ^ 64 - 1 - k ≡ 2 ^ 64 - suc k = omega arith in
-      e ∙ ap well b ∙ simp (le-leb (suc k) lo h)
+      ap (λ (n : ℕ). Some n) b ∙ simp (le-leb (suc k) lo h)
 
-  pub below_bad : r ≡ badly → lo ≤ k → r ≡ tell_of (whole_in lo 0 (Signed (negsuc k)))
-  unfolding tell_of
-  below_bad e h = e ∙ simp (lt-leb (suc k) lo (omega arith))
+  pub below_bad : lo ≤ k → None ≡ tell word_of (whole_in lo 0 (Some (Signed (negsuc k))))
+  unfolding tell
+  below_bad h = simp (lt-leb (suc k) lo (omega arith))
 
 pub ruleset bounds = (upto_good, upto_bad, below_good, below_bad, arith)
 
@@ -111,73 +110,95 @@ module _ (z : ℤ) (m : mag z < 2 ^ 63) where
   pub above_plain : lt_z (back z) (pos 0) ≡ false → z ≡ pos (nat_abs (back z))
   above_plain t = (positive t).1 ∙ ap pos (sym (ap nat_abs (same ∙ (positive t).1)))
 
-  module _ (r : Judged) (lo hi : ℕ) (x : Number) (e : x ≡ Signed z) where
-    by_sign : (y : ℤ) → z ≡ y → tell_of (whole_in lo hi (Signed y)) ≡ tell_of (whole_in lo hi x)
-    by_sign y t = sym (ap (λ (n : Number). tell_of (whole_in lo hi n)) (e ∙ ap Signed t))
+  module _ (r : Answer ℕ) (lo hi : ℕ) (x : Number) (e : x ≡ Signed z) where
+    by_sign : (y : ℤ) → z ≡ y → tell word_of (whole_in lo hi (Some (Signed y))) ≡ tell word_of (whole_in lo hi (Some x))
+    by_sign y t = sym (ap (λ (n : Number). tell word_of (whole_in lo hi (Some n))) (e ∙ ap Signed t))
 
-    pub whole_below : lt_z (back z) (pos 0) ≡ true → r ≡ tell_of (whole_in lo 0 (Signed (negsuc (turn z)))) → r ≡ tell_of (whole_in lo hi x)
+    pub whole_below : lt_z (back z) (pos 0) ≡ true → r ≡ tell word_of (whole_in lo 0 (Some (Signed (negsuc (turn z))))) → r ≡ tell word_of (whole_in lo hi (Some x))
     whole_below t q = q ∙ by_sign (negsuc (turn z)) (below_turned t)
 
-    pub whole_above : lt_z (back z) (pos 0) ≡ false → r ≡ tell_of (whole_in 0 hi (Unsigned (nat_abs (back z)))) → r ≡ tell_of (whole_in lo hi x)
+    pub whole_above : lt_z (back z) (pos 0) ≡ false → r ≡ tell word_of (whole_in 0 hi (Some (Unsigned (nat_abs (back z))))) → r ≡ tell word_of (whole_in lo hi (Some x))
     whole_above t q = q ∙ by_sign (pos (nat_abs (back z))) (above_plain t)
 
-module _ (r : Judged) (lo hi : ℕ) (x : Number) where
-  pub whole_unsigned : (n : ℕ) → x ≡ Unsigned n → r ≡ tell_of (whole_in 0 hi (Unsigned n)) → r ≡ tell_of (whole_in lo hi x)
-  whole_unsigned n e q = q ∙ sym (rw e)
+module _ (lo hi : ℕ) (x : Number) where
+  pub whole_unsigned : (r : Answer ℕ) (n : ℕ) → x ≡ Unsigned n → r ≡ tell word_of (whole_in 0 hi (Some (Unsigned n))) → r ≡ tell word_of (whole_in lo hi (Some x))
+  whole_unsigned r n e q = q ∙ sym (rw e)
 
-  pub whole_real : (y : Float) → x ≡ Real y → r ≡ badly → r ≡ tell_of (whole_in lo hi x)
-  unfolding tell_of
-  whole_real y e q = q ∙ sym (rw e)
-
-  pub whole_not : x ≡ Not → r ≡ badly → r ≡ tell_of (whole_in lo hi x)
-  unfolding tell_of
-  whole_not e q = q ∙ sym (rw e)
+  pub whole_real : (y : Float) → x ≡ Real y → None ≡ tell word_of (whole_in lo hi (Some x))
+  unfolding tell
+  whole_real y e = sym (rw e)
 
 pub ruleset turns = (turn_fits, turn_sign, turn_width, plain_sign, plain_width)
 
-pub ruleset wholes = (whole_below, whole_above, whole_unsigned, whole_real, whole_not)
-
--- a number, where its bytes are there
-module _ (r : Judged) (there : Bool) (n : ℕ) where
-  pub given_upto : (hi : ℕ) → there ≡ true → r ≡ tell_of (whole_in 0 hi (Unsigned n)) → r ≡ tell_of (whole_in 0 hi (given there (Unsigned n)))
-  unfolding given
-  given_upto hi t q = rw t q
-
-  pub given_no_whole : (hi : ℕ) → there ≡ false → r ≡ badly → r ≡ tell_of (whole_in 0 hi (given there (Unsigned n)))
-  unfolding given tell_of
-  given_no_whole hi t q = rw t q
-
-pub ruleset givens = (given_upto, given_no_whole)
+pub ruleset wholes = (whole_below, whole_above, whole_unsigned, whole_real)
 
 -- the element at a place, by the number there
-module _ (s : List ℕ) (at : ℕ) (x : Number) (e : x ≡ number_of (leaf_at s at)) (r : Judged) where
-  pub found : x ≡ number_of (shallow_at s at)
-  found = e ∙ sym (number_there s at)
+pub found : (s : List ℕ) (at : ℕ) (x : Found) → x ≡ number_of (leaf_at s at) → x ≡ number_of (shallow_at s at)
+found s at x e = e ∙ sym (number_there s at)
 
-  pub whole_is : (lo hi : ℕ) → r ≡ tell_of (whole_in lo hi x) → r ≡ read_at (Kind.wholes lo hi) s at
+module _ (s : List ℕ) (at lo hi : ℕ) where
+  whole_is : (x : Found) → x ≡ number_of (leaf_at s at) → (r : Answer ℕ) → r ≡ tell word_of (whole_in lo hi x) → r ≡ read_at word_of (Kind.wholes lo hi) s at
   unfolding read_at judge
-  whole_is lo hi q = q ∙ ap (λ (y : Number). tell_of (whole_in lo hi y)) found
+  whole_is x e r q = q ∙ ap (λ (y : Found). tell word_of (whole_in lo hi y)) (found s at x e)
 
--- by its lead byte
-module _ (s : List ℕ) (at : ℕ) (r : Judged) where
-  module _ (lo hi : ℕ) where
-    pub whole_past : length s ≤ at → r ≡ badly → r ≡ read_at (Kind.wholes lo hi) s at
-    unfolding tell_of
-    whole_past h q = whole_is s at Not (past s at h) r lo hi q
+  module _ (x : Found) (e : x ≡ number_of (leaf_at s at)) where
+    pub whole_some : (n : Number) (r : Answer ℕ) → x ≡ Some n → r ≡ tell word_of (whole_in lo hi (Some n)) → r ≡ read_at word_of (Kind.wholes lo hi) s at
+    whole_some n r y q = whole_is (Some n) (sym y ∙ e) r q
 
-    pub whole_small : at < length s → get_or s at 0 < 0x80 → r ≡ tell_of (whole_in 0 hi (Unsigned (get_or s at 0))) → r ≡ read_at (Kind.wholes lo hi) s at
-    whole_small there h q = whole_is s at (Unsigned (get_or s at 0)) (small_is s at there h) r lo hi q
+    pub whole_none : x ≡ None → None ≡ read_at word_of (Kind.wholes lo hi) s at
+    unfolding tell
+    whole_none y = whole_is None (sym y ∙ e) None refl
 
-any_least : (lo hi : ℕ) (t : Bool) (n : ℕ) → whole_in 0 hi (given t (Unsigned n)) ≡ whole_in lo hi (given t (Unsigned n))
-unfolding given
-any_least lo hi true n = refl
-any_least lo hi false n = refl
+  -- by its lead byte
+  pub whole_past : length s ≤ at → None ≡ read_at word_of (Kind.wholes lo hi) s at
+  unfolding tell
+  whole_past h = whole_is None (past s at h) None refl
 
--- an unsigned whole, in the k-th width
-pub whole_wide : (k : ℕ) → k < 4 → (s : List ℕ) (at : ℕ) (r : Judged) (lo hi : ℕ) (t : Bool) (n : ℕ) → at < length s → get_or s at 0 ≡ 0xCC + k
-    → t ≡ is_there (length s) (at + 1) (2 ^ k) → n ≡ if_there s (at + 1) (2 ^ k) (big_at s (at + 1) (2 ^ k))
-    → r ≡ tell_of (whole_in 0 hi (given t (Unsigned n))) → r ≡ read_at (Kind.wholes lo hi) s at
-whole_wide k h s at r lo hi t n there b e f q =
-    whole_is s at (given t (Unsigned n)) (unsigned_is k h s at (given t (Unsigned n)) t n there b e f refl) r lo hi (q ∙ ap tell_of (any_least lo hi t n))
+  pub whole_small : at < length s → get_or s at 0 < 0x80 → (r : Answer ℕ) → r ≡ tell word_of (whole_in 0 hi (Some (Unsigned (get_or s at 0)))) → r ≡ read_at word_of (Kind.wholes lo hi) s at
+  whole_small there h r q = whole_is (Some (Unsigned (get_or s at 0))) (small_is s at there h) r q
 
-pub ruleset numbers = (byte_wide, whole_past, whole_small, whole_is, arith)
+-- an unsigned whole of w bytes behind the byte b
+abbrev Wide : ℕ → ℕ → Type 0
+Wide b w =
+    (s : List ℕ) (at lo hi : ℕ) (o : Answer ℕ) → at < length s → get_or s at 0 ≡ b → o ≡ bits_at s (at + 1) w → (n : ℕ) → o ≡ Some n
+    → (r : Answer ℕ) → r ≡ tell word_of (whole_in 0 hi (Some (Unsigned n))) → r ≡ read_at word_of (Kind.wholes lo hi) s at
+
+abbrev Lacks : ℕ → ℕ → Type 0
+Lacks b w =
+    (s : List ℕ) (at lo hi : ℕ) (o : Answer ℕ) → at < length s → get_or s at 0 ≡ b → o ≡ bits_at s (at + 1) w → o ≡ None
+    → None ≡ read_at word_of (Kind.wholes lo hi) s at
+
+module _ (b w : ℕ) (R : Reads b w upward) where
+  wide : Wide b w
+  wide s at lo hi o there e f n y r q =
+      whole_is s at lo hi (Some (Unsigned n)) (R s at (Some (Unsigned n)) o there e f (sym (rw y))) r q
+
+  lacks : Lacks b w
+  unfolding tell
+  lacks s at lo hi o there e f y = whole_is s at lo hi None (R s at None o there e f (sym (rw y))) None refl
+
+pub wide1 : Wide 0xCC 1
+wide1 = wide 0xCC 1 unsigned1
+
+pub wide2 : Wide 0xCD 2
+wide2 = wide 0xCD 2 unsigned2
+
+pub wide4 : Wide 0xCE 4
+wide4 = wide 0xCE 4 unsigned4
+
+pub wide8 : Wide 0xCF 8
+wide8 = wide 0xCF 8 unsigned8
+
+pub lacks1 : Lacks 0xCC 1
+lacks1 = lacks 0xCC 1 unsigned1
+
+pub lacks2 : Lacks 0xCD 2
+lacks2 = lacks 0xCD 2 unsigned2
+
+pub lacks4 : Lacks 0xCE 4
+lacks4 = lacks 0xCE 4 unsigned4
+
+pub lacks8 : Lacks 0xCF 8
+lacks8 = lacks 0xCF 8 unsigned8
+
+pub ruleset numbers = (byte_wide, whole_past, whole_small, wide1, wide2, wide4, wide8, lacks1, lacks2, lacks4, lacks8, whole_some, whole_none, arith)

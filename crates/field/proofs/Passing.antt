@@ -8,20 +8,23 @@ use native.Mathlib.Omega.{arith}
 use lib.ListN.{get_or}
 use Rattle.element.specs.{Form.span_of, Code.At.leaf_at}
 use Rattle.number.specs.Number.{number_of}
-use Rattle.field.specs.declared.Octet.{Octet, TheVariants.Byte, TheVariants.Unfit}
-use Rattle.field.specs.declared.Piece.TheVariants.{Bytes, NoBytes}
+use Rattle.std.specs.Prelude.{Option as Answer, Some, None}
+use Rattle.field.specs.declared.{Octet.Octet, Piece.Piece}
 use Rattle.field.specs.Judge.{on_some, octet_in, naturals_in, octets_in}
 use Rattle.field.specs.Code.At.{end_of, leaves_from, leaves_end}
 use Rattle.field.specs.Code.Item.{octet_by, octet_at, LowRun, naturals_from, octets_from, piece_by, octets_passed}
-use Rattle.field.proofs.{Arrays.length_naturals, Runs.run_octet}
+use Rattle.field.proofs.{Arrays.length_naturals, Octets.octet, Runs.run_octet}
 
 -- the place behind n parts, where all are bytes
 unfoldable pub octets_end : List ℕ → ℕ → ℕ → Option ℕ
 octets_end s n at = on_some (octets_from s n at) (λ d. some (leaves_end s n at))
 
-abbrev behind : Octet → (ℕ → Option ℕ) → Option ℕ
-behind Unfit f = none
-behind (Byte v next) f = f next
+abbrev behind : Answer Octet → (ℕ → Option ℕ) → Option ℕ
+behind None f = none
+behind (Some o) f = f o.next
+
+abbrev pub piece : ℕ → ℕ → Piece
+piece n next = record { size = n; next = next }
 
 same_end : (v p : ℕ) (o : Option (List ℕ)) → on_some (on_some o (λ bs. some (v ∷ bs))) (λ d. some p) ≡ on_some o (λ d. some p)
 same_end v p none = refl
@@ -38,17 +41,17 @@ end_more s j q = go (octet_in (number_of (leaf_at s q)))
 
 -- one part, of k that are left
 module _ (s : List ℕ) (k q : ℕ) (r : Option ℕ) (g : octets_end s k q ≡ r) where
-  module _ (x : Octet) (p : 0 < k) (e : x ≡ octet_at s q) where
+  module _ (x : Answer Octet) (p : 0 < k) (e : x ≡ octet_at s q) where
     end_by : behind x (octets_end s (k - 1)) ≡ r
     end_by =
         let j : suc (k - 1) ≡ k = omega arith in
-        ap (λ (y : Octet). behind y (octets_end s (k - 1))) e ∙ sym (end_more s (k - 1) q) ∙ ap (λ (n : ℕ). octets_end s n q) j ∙ g
+        ap (λ (y : Answer Octet). behind y (octets_end s (k - 1))) e ∙ sym (end_more s (k - 1) q) ∙ ap (λ (n : ℕ). octets_end s n q) j ∙ g
 
-    pub end_next : (v next : ℕ) → x ≡ Byte v next → octets_end s (k - 1) next ≡ r
-    end_next v next y = ap (λ (z : Octet). behind z (octets_end s (k - 1))) (sym y) ∙ end_by
+    pub end_next : (o : Octet) → x ≡ Some o → octets_end s (k - 1) o.next ≡ r
+    end_next o y = ap (λ (z : Answer Octet). behind z (octets_end s (k - 1))) (sym y) ∙ end_by
 
-    end_unfit : x ≡ Unfit → none ≡ r
-    end_unfit y = ap (λ (z : Octet). behind z (octets_end s (k - 1))) (sym y) ∙ end_by
+    end_unfit : x ≡ None → none ≡ r
+    end_unfit y = ap (λ (z : Answer Octet). behind z (octets_end s (k - 1))) (sym y) ∙ end_by
 
   end_done : k ≤ 0 → some q ≡ r
   unfolding octets_end naturals_from naturals_in leaves_from leaves_end
@@ -58,27 +61,27 @@ module _ (s : List ℕ) (k q : ℕ) (r : Option ℕ) (g : octets_end s k q ≡ r
 
 -- what is said of n parts, by that place
 module _ (s : List ℕ) (n from : ℕ) where
-  passed_to : (p : ℕ) → some p ≡ octets_end s n from → Bytes n p ≡ octets_passed s n from
+  passed_to : (p : ℕ) → some p ≡ octets_end s n from → Some (piece n p) ≡ octets_passed s n from
   unfolding octets_passed octets_end
   passed_to p e = go (octets_from s n from) refl e
     where
-      go : (o : Option (List ℕ)) → octets_from s n from ≡ o → some p ≡ on_some o (λ d. some (leaves_end s n from)) → Bytes n p ≡ piece_by o (leaves_end s n from)
+      go : (o : Option (List ℕ)) → octets_from s n from ≡ o → some p ≡ on_some o (λ d. some (leaves_end s n from)) → Some (piece n p) ≡ piece_by o (leaves_end s n from)
       go none q g = absurd (let z : ◌≡◌ {A = ℕ} 0 1 = cc in omega arith)
-      go (some d) q g = ap₂ Bytes (sym (length_naturals 255 s n from d q)) (cc)
+      go (some d) q g = ap₂ (λ (m e : ℕ). Some (piece m e)) (sym (length_naturals 255 s n from d q)) (cc)
 
-  passed_not : none ≡ octets_end s n from → NoBytes ≡ octets_passed s n from
+  passed_not : none ≡ octets_end s n from → None ≡ octets_passed s n from
   unfolding octets_passed octets_end
   passed_not e = go (octets_from s n from) e
     where
-      go : (o : Option (List ℕ)) → none ≡ on_some o (λ d. some (leaves_end s n from)) → NoBytes ≡ piece_by o (leaves_end s n from)
+      go : (o : Option (List ℕ)) → none ≡ on_some o (λ d. some (leaves_end s n from)) → None ≡ piece_by o (leaves_end s n from)
       go none g = refl
       go (some d) g = absurd (let z : ◌≡◌ {A = ℕ} 0 1 = cc in omega arith)
 
   module _ (k q : ℕ) (g : octets_end s k q ≡ octets_end s n from) where
-    pub passed_all : k ≤ 0 → Bytes n q ≡ octets_passed s n from
+    pub passed_all : k ≤ 0 → Some (piece n q) ≡ octets_passed s n from
     passed_all h = passed_to q (end_done s k q (octets_end s n from) g h)
 
-    pub passed_stop : (x : Octet) → 0 < k → x ≡ octet_at s q → x ≡ Unfit → NoBytes ≡ octets_passed s n from
+    pub passed_stop : (x : Answer Octet) → 0 < k → x ≡ octet_at s q → x ≡ None → None ≡ octets_passed s n from
     passed_stop x p e y = passed_not (end_unfit s k q (octets_end s n from) g x p e y)
 
   -- behind the first parts of a run
@@ -88,7 +91,20 @@ module _ (s : List ℕ) (n from : ℕ) where
       let j : n - i - 1 ≡ n - suc i = omega arith in
       let k : from + i + 1 ≡ from + suc i = omega arith in
       rw (j, k) at
-      (end_next s (n - i) (from + i) (octets_end s n from) (run_passed r y i (omega arith)) (Byte (get_or s (from + i) 0) (from + i + 1)) (omega (arith, y.few))
-      (run_octet s from n r y i (omega arith)) (get_or s (from + i) 0) (from + i + 1) refl)
+      (end_next s (n - i) (from + i) (octets_end s n from) (run_passed r y i (omega arith)) (Some (octet (get_or s (from + i) 0) (from + i + 1))) (omega (arith, y.few))
+      (run_octet s from n r y i (omega arith)) (octet (get_or s (from + i) 0) (from + i + 1)) refl)
 
-pub ruleset passings = (end_next, passed_all, passed_stop, run_passed, arith)
+-- by how many are read
+module _ (s : List ℕ) (n from i q : ℕ) (g : octets_end s (n - i) q ≡ octets_end s n from) where
+  pub octets_next : (x : Answer Octet) → i < n → x ≡ octet_at s q → (o : Octet) → x ≡ Some o → octets_end s (n - (i + 1)) o.next ≡ octets_end s n from
+  octets_next x h e o y =
+      let z : n - i - 1 ≡ n - (i + 1) = omega arith in
+      rw z at (end_next s (n - i) q (octets_end s n from) g x (omega arith) e o y)
+
+  pub octets_all : n ≤ i → Some (record { size = n; next = q }) ≡ octets_passed s n from
+  octets_all h = passed_all s n from (n - i) q g (omega arith)
+
+  pub octets_stop : (x : Answer Octet) → i < n → x ≡ octet_at s q → x ≡ None → None ≡ octets_passed s n from
+  octets_stop x h e y = passed_stop s n from (n - i) q g x (omega arith) e y
+
+pub ruleset passings = (octets_next, octets_all, octets_stop, run_passed, arith)

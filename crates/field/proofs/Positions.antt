@@ -1,74 +1,85 @@
 -- Positions: three reals behind each other, and no fewer or more. Each law in the shape of a need of the code. Assumes nothing.
 use mathlib.Core.Path.{◌≡◌, refl, sym, ap, ◌∙◌}
-use mathlib.Core.Bool.{Bool, true, false, ◌&&◌}
 use mathlib.Core.{List.List, List.[], List.◌∷◌, Option.Option, Option.some, Option.none}
 use Prim.Native.Nat.{ℕ, zero, suc}
 use lib.Ieee.{Float}
-use Rattle.octets.specs.Choice.{either}
-use Rattle.element.specs.{Form.span_of, Code.At.leaf_at}
+use Rattle.element.specs.{Form.span_of, Meaning.Elements, Code.At.leaf_at}
 use Rattle.number.specs.Number.{number_of}
-use Rattle.field.specs.declared.{Extent.Extent, Judged.Judged, Located.Located, Measure.Measure}
-use Rattle.field.specs.{Kind.Kind, Code.At.end_of, Code.At.leaves_from, Code.At.shallow_at, Cell.located, Code.Read.unlocated, Code.Read.located_by}
-use Rattle.field.specs.{Code.Extent.parts_by, Code.Extent.Lists}
+use Rattle.std.specs.Prelude.{Option as Answer, Some, None}
+use Rattle.field.specs.declared.{Extent.Extent, Position.Position, Measure.Measure}
+use Rattle.field.specs.{Kind.Kind, Kind.Value, Code.At.end_of, Code.At.leaves_from, Cell.figure_of, Cell.position_of}
+use Rattle.field.specs.Code.Extent.{Lists}
 use Rattle.field.specs.Judge.{on_some, real_in, reals_in, three_of, judge}
-use Rattle.field.specs.Code.Item.{no_measure, measure_by, measure_at, reals_from}
-use Rattle.field.specs.Code.Read.{read_at}
+use Rattle.field.specs.Code.Item.{measure_by, measure_at, reals_from}
+use Rattle.field.specs.Code.Read.{tell, read_at}
 use Rattle.field.proofs.{Arrays.by_parts, Reals.read_some, Reals.read_none}
 
 -- one real
-module _ (s : List ℕ) (at : ℕ) (real : Judged) (e : real ≡ read_at Kind.reals s at) where
-  pub measure_there : (next : ℕ) → real.state ≡ 0 → next ≡ end_of at (span_of s at) → record { there = true; x = real.figure; next = next } ≡ measure_at s at
+module _ (s : List ℕ) (at : ℕ) (a : Answer Float) (e : a ≡ read_at figure_of Kind.reals s at) where
+  pub measure_there : (x : Float) (next : ℕ) → a ≡ Some x → next ≡ end_of at (span_of s at) → Some (record { x = x; next = next }) ≡ measure_at s at
   unfolding measure_at
-  measure_there next g p = ap (measure_by (some real.figure)) p ∙ sym (rw (read_some s at real e g))
+  measure_there x next g p = ap (measure_by (some x)) p ∙ sym (rw (read_some s at a e x g))
 
-  pub measure_none : (r : Measure) → (real.state ≡ 0 → ⊥) → r ≡ no_measure → r ≡ measure_at s at
+  pub measure_none : a ≡ None → None ≡ measure_at s at
   unfolding measure_at
-  measure_none r g q = q ∙ sym (rw (read_none s at real e g))
+  measure_none g = sym (rw (read_none s at a e g))
 
 pub ruleset measures = (measure_there, measure_none)
 
--- three of them
-abbrev nest : Option Float → Option Float → Option Float → Option (List Float)
-nest a b c = on_some a (λ x. on_some (on_some b (λ y. on_some (on_some c (λ z. some (z ∷ []))) (λ zs. some (y ∷ zs)))) (λ ys. some (x ∷ ys)))
+-- three of them: each is looked for behind the one before, if that is there
+abbrev after : Answer Measure → (Measure → Option (List Float)) → Option (List Float)
+after None f = none
+after (Some m) f = f m
 
-abbrev joined : Measure → Measure → Measure → Located
-joined a b c = either ((a.there && b.there) && c.there) (λ _. record { state = 0; position = located a.x b.x c.x }) (λ _. unlocated 1)
+abbrev front : Float → Option (List Float) → Option (List Float)
+front x o = on_some o (λ xs. some (x ∷ xs))
 
-third : (x y : Float) (p q : ℕ) (c : Option Float) (r : ℕ) → joined (measure_by (some x) p) (measure_by (some y) q) (measure_by c r) ≡ located_by (on_some (nest (some x) (some y) c) three_of)
-unfolding located_by
-third x y p q none r = refl
-third x y p q (some z) r = refl
-
--- each real is looked for behind the one before, if that is there
-module _ (f : ℕ → Option Float) (g : ℕ → ℕ) where
-  abbrev then : Measure → Measure
-  then m = measure_by (f m.next) (g m.next)
-
-  second : (x : Float) (p : ℕ) (b : Option Float) (q : ℕ) → joined (measure_by (some x) p) (measure_by b q) (then (measure_by b q)) ≡ located_by (on_some (nest (some x) b (f q)) three_of)
-  unfolding located_by
-  second x p none q = refl
-  second x p (some y) q = third x y p q (f q) (g q)
-
-  first : (a : Option Float) (p : ℕ) → joined (measure_by a p) (then (measure_by a p)) (then (then (measure_by a p))) ≡ located_by (on_some (nest a (f p) (f (g p))) three_of)
-  unfolding located_by
-  first none p = refl
-  first (some x) p = second x p (f p) (g p)
-
-module _ (s : List ℕ) (from : ℕ) (a b c : Measure) (e : a ≡ measure_at s from) (f : b ≡ measure_at s a.next) (g : c ≡ measure_at s b.next) where
-  joined_is : joined a b c ≡ located_by (on_some (reals_from s 3 from) three_of)
+module _ (s : List ℕ) where
+  more_reals : (n at : ℕ) → reals_from s (suc n) at ≡ after (measure_at s at) (λ m. front m.x (reals_from s n m.next))
   unfolding measure_at reals_from reals_in leaves_from
-  joined_is =
-      ap (joined a b) g ∙ ap (λ (m : Measure). joined a m (measure_at s m.next)) f
-      ∙ ap (λ (m : Measure). joined m (measure_at s m.next) (measure_at s (measure_at s m.next).next)) e
-      ∙ first (λ at. real_in (number_of (leaf_at s at))) (λ at. end_of at (span_of s at)) (real_in (number_of (leaf_at s from))) (end_of from (span_of s from))
+  more_reals n at = go (real_in (number_of (leaf_at s at)))
+    where
+      go : (o : Option Float) → on_some o (λ x. front x (reals_in (leaves_from s n (end_of at (span_of s at)))))
+          ≡ after (measure_by o (end_of at (span_of s at))) (λ m. front m.x (reals_in (leaves_from s n m.next)))
+      go none = refl
+      go (some x) = refl
 
-  pub three_there : (a.there && b.there) && c.there ≡ true → record { state = 0; position = located a.x b.x c.x } ≡ located_by (on_some (reals_from s 3 from) three_of)
-  three_there u = sym (simp u) ∙ joined_is
+  no_reals : (at : ℕ) → reals_from s 0 at ≡ some []
+  unfolding reals_from reals_in leaves_from
+  no_reals at = refl
 
-  pub three_not : (r : Located) → r ≡ unlocated 1 → (a.there && b.there) && c.there ≡ false → r ≡ located_by (on_some (reals_from s 3 from) three_of)
-  three_not r n u = n ∙ sym (simp u) ∙ joined_is
+  -- a real more, and none
+  real_more : (n at : ℕ) (a : Answer Measure) → a ≡ measure_at s at → (m : Measure) → a ≡ Some m → reals_from s (suc n) at ≡ front m.x (reals_from s n m.next)
+  real_more n at a e m y = more_reals n at ∙ ap (λ (i : Answer Measure). after i (λ m. front m.x (reals_from s n m.next))) (sym e ∙ y)
 
-pub ruleset threes = (three_there, three_not)
+  real_stop : (n at : ℕ) (a : Answer Measure) → a ≡ measure_at s at → a ≡ None → reals_from s (suc n) at ≡ none
+  real_stop n at a e y = more_reals n at ∙ ap (λ (i : Answer Measure). after i (λ m. front m.x (reals_from s n m.next))) (sym e ∙ y)
+
+  module _ (from : ℕ) where
+    abbrev said : Option (List Float) → Answer Position
+    said o = tell position_of (on_some o three_of)
+
+    module _ (a : Answer Measure) (e : a ≡ measure_at s from) where
+      pub first_none : a ≡ None → None ≡ tell position_of (on_some (reals_from s 3 from) three_of)
+      unfolding tell
+      first_none y = sym (ap said (real_stop 2 from a e y))
+
+      module _ (p : Measure) (f : a ≡ Some p) (b : Answer Measure) (g : b ≡ measure_at s p.next) where
+        pub second_none : b ≡ None → None ≡ tell position_of (on_some (reals_from s 3 from) three_of)
+        unfolding tell
+        second_none y = sym (ap said (real_more 2 from a e p f ∙ ap (front p.x) (real_stop 1 p.next b g y)))
+
+        module _ (q : Measure) (h : b ≡ Some q) (c : Answer Measure) (i : c ≡ measure_at s q.next) where
+          pub third_none : c ≡ None → None ≡ tell position_of (on_some (reals_from s 3 from) three_of)
+          unfolding tell
+          third_none y = sym (ap said (real_more 2 from a e p f ∙ ap (front p.x) (real_more 1 p.next b g q h ∙ ap (front q.x) (real_stop 0 q.next c i y))))
+
+          pub three_there : (r : Measure) → c ≡ Some r → Some (record { latitude = p.x; longitude = q.x; altitude = r.x }) ≡ tell position_of (on_some (reals_from s 3 from) three_of)
+          unfolding tell
+          three_there r y =
+              sym (ap said (real_more 2 from a e p f ∙ ap (front p.x) (real_more 1 p.next b g q h ∙ ap (front q.x) (real_more 0 q.next c i r y ∙ ap (front r.x) (no_reals r.next)))))
+
+pub ruleset threes = (first_none, second_none, third_none, three_there)
 
 -- no other number of them is a position
 one : (a : Option Float) → on_some (on_some a (λ x. some (x ∷ []))) three_of ≡ none
@@ -104,22 +115,22 @@ not_three s (suc (suc (suc (suc n)))) at h =
     many (found s at) (found s (behind s at)) (found s (behind s (behind s at))) (found s (behind s (behind s (behind s at))))
     (reals_in (leaves_from s n (behind s (behind s (behind s (behind s at))))))
 
-module _ (s : List ℕ) (at : ℕ) (a : Extent) (y : Lists s at a) (r : Located) where
-  by_reals : (t : Bool) → a.there ≡ t → on_some (parts_by t (leaves_from s a.size a.from)) (λ es. on_some (reals_in es) three_of) ≡ judge Kind.positions (shallow_at s at)
-  unfolding judge
-  by_reals t e = by_parts s at a y t e (λ es. on_some (reals_in es) three_of)
+module _ (s : List ℕ) (at : ℕ) (a : Answer Extent) (y : Lists s at a) where
+  abbrev placed : Elements → Option Value
+  placed es = on_some (reals_in es) three_of
 
-  pub located_three : a.there ≡ true → a.size ≡ 3 → r ≡ located_by (on_some (reals_from s 3 a.from) three_of) → r ≡ located_by (judge Kind.positions (shallow_at s at))
-  unfolding reals_from
-  located_three t k e =
-      e ∙ ap (λ (n : ℕ). located_by (on_some (reals_from s n a.from) three_of)) (sym k) ∙ ap located_by (by_reals true t)
+  pub located_not : a ≡ None → None ≡ read_at position_of Kind.positions s at
+  unfolding read_at judge tell
+  located_not e = ap (tell position_of) (by_parts s at a y None e placed)
 
-  pub located_count : a.there ≡ true → (a.size ≡ 3 → ⊥) → r ≡ unlocated 1 → r ≡ located_by (judge Kind.positions (shallow_at s at))
-  unfolding reals_from located_by
-  located_count t k e = e ∙ ap located_by (sym (not_three s a.size a.from k) ∙ by_reals true t)
+  module _ (x : Extent) (e : a ≡ Some x) where
+    pub located_three : x.size ≡ 3 → (r : Answer Position) → r ≡ tell position_of (on_some (reals_from s 3 x.from) three_of) → r ≡ read_at position_of Kind.positions s at
+    unfolding read_at judge reals_from
+    located_three k r q =
+        q ∙ ap (λ (n : ℕ). tell position_of (on_some (reals_from s n x.from) three_of)) (sym k) ∙ ap (tell position_of) (by_parts s at a y (Some x) e placed)
 
-  pub located_not : a.there ≡ false → r ≡ unlocated 1 → r ≡ located_by (judge Kind.positions (shallow_at s at))
-  unfolding located_by
-  located_not t e = e ∙ ap located_by (by_reals false t)
+    pub located_count : (x.size ≡ 3 → ⊥) → None ≡ read_at position_of Kind.positions s at
+    unfolding read_at judge reals_from tell
+    located_count k = ap (tell position_of) (sym (not_three s x.size x.from k) ∙ by_parts s at a y (Some x) e placed)
 
 pub ruleset locations = (located_three, located_count, located_not)

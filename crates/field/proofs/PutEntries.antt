@@ -12,7 +12,8 @@ use borrow.Author.Tests.{le-leb}
 use Rattle.octets.specs.{Bytes.put_at, Pieces.lengths_of, Pieces.strung}
 use Rattle.octets.proofs.{Ranges.true_false, Pieces.length_lengths, Writing.put_none, Writing.put_then, Writing.put_apart, Writing.length_put}
 use Rattle.element.specs.{Form.span_of, Meaning.Element}
-use Rattle.field.specs.declared.Piece.{Piece, TheVariants.Bytes, TheVariants.NoBytes}
+use Rattle.std.specs.Prelude.{Option as Answer, Some, None}
+use Rattle.field.specs.declared.Piece.{Piece}
 use Rattle.field.specs.Judge.{parts_of, piece_in}
 use Rattle.field.specs.{Code.At.shallow_at, Code.At.nested_end, Code.Into.into_by, Code.Into.lead_into, Code.Item.is_some, Code.Item.piece_by, Code.Item.piece_at}
 use Rattle.field.specs.Code.Lent.{list_in, entries_at, AreEntries, entries_put}
@@ -92,41 +93,46 @@ module _ (s : List ℕ) (n from : ℕ) (old out : List ℕ) (q at i : ℕ) (y : 
     pub entry_same : length new ≡ length old
     entry_same = same_room ∙ y.same
 
-    module _ (x : Piece) (e : x ≡ piece_at (length out - at) s q) where
+    module _ (x : Answer Piece) (e : x ≡ piece_at (length out - at) s q) where
       -- what is said of it
-      told : (v : Next) → x ≡ Bytes (length v.0) (nested_end s q (span_of s q))
+      told : (v : Next) → x ≡ Some (record { size = length v.0; next = nested_end s q (span_of s q) })
       unfolding piece_at
       told v =
           let p = is_piece 245 (shallow_at s q) v.0 v.2.piece in
           e ∙ ap (λ (o : Option (List ℕ)). piece_by o (nested_end s q (span_of s q)))
           (piece_wide (shallow_at s q) v.0 p.0 (length out - at) (omega (arith, upto v, y.roomy)))
 
-      pub entry_never : x ≡ NoBytes → new ≡ entries_put old 0 80 (list_in (entries_at s n from))
+      pub entry_never : x ≡ None → new ≡ entries_put old 0 80 (list_in (entries_at s n from))
       entry_never f = let v = told next_entry in absurd (let w : ◌≡◌ {A = ℕ} 0 1 = cc in omega arith)
 
-      module _ (size next : ℕ) (f : x ≡ Bytes size next) where
-        size_is : length next_entry.0 ≡ size
-        size_is = let v = told next_entry in cc
+      module _ (p : Piece) (f : x ≡ Some p) where
+        same_piece : record { size = length next_entry.0; next = nested_end s q (span_of s q) } ≡ p
+        same_piece = let v = told next_entry in cc
 
-        next_is : nested_end s q (span_of s q) ≡ next
-        next_is = let v = told next_entry in cc
+        size_is : length next_entry.0 ≡ p.size
+        size_is = ap (λ (x : Piece). x.size) same_piece
 
-        pub entry_byte : Fits w8 size
+        next_is : nested_end s q (span_of s q) ≡ p.next
+        next_is = ap (λ (x : Piece). x.next) same_piece
+
+        pub entry_byte : Fits w8 p.size
         entry_byte = record { fits = omega (arith, size_is, (is_piece 245 (shallow_at s q) next_entry.0 next_entry.2.piece).1) }
 
-        pub entry_behind : Fits w64 (at + size)
+        pub entry_behind : Fits w64 (at + p.size)
         entry_behind = record { fits = omega (arith, size_is, upto next_entry) }
 
-        pub entry_next : EntriesLeft s n from old (set new (64 + i) size) next (at + size) (i + 1)
+        pub entry_next : EntriesLeft s n from old (set new (64 + i) p.size) p.next (at + p.size) (i + 1)
         unfolding lengths_of strung lead_into
         entry_next =
             let (d, ds, v) = next_entry in
+            let size = p.size in
+            let next = p.next in
             let l : length d ≡ size = size_is in
             let c : n - i - 1 ≡ n - (i + 1) = omega arith in
             let r : entries_at s (n - (i + 1)) next ≡ some ds = ap₂ (λ (j p : ℕ). entries_at s j p) (sym c) (sym next_is) ∙ v.rest in
             let m : length ds ≡ n - (i + 1) = length_pieces 245 s (n - (i + 1)) next ds r in
-            let p = is_piece 245 (shallow_at s q) d v.piece in
-            let u : new ≡ put_at out at d = g ∙ piece_put (shallow_at s q) d p.0 out at (omega (arith, upto (d, ds, v), y.roomy)) in
+            let z = is_piece 245 (shallow_at s q) d v.piece in
+            let u : new ≡ put_at out at d = g ∙ piece_put (shallow_at s q) d z.0 out at (omega (arith, upto (d, ds, v), y.roomy)) in
             let k : length (set new (64 + i) size) ≡ length out = length-set new (64 + i) size ∙ same_room in
             let j : 64 + (i + 1) ≡ 64 + i + 1 = omega arith in
             record {

@@ -8,9 +8,9 @@ use lib.{Dec.T, Dec.ltb, ListN.length, ListN.get_or}
 use borrow.Author.Tests.{ltb-true, ltb-false}
 use Rattle.octets.specs.Code.Low.{are_low}
 use Rattle.octets.proofs.Lows.{low_there, low_each}
-use Rattle.field.specs.declared.Octet.TheVariants.{Byte}
+use Rattle.std.specs.Prelude.{Some}
 use Rattle.field.specs.Code.Item.{octet_at, LowRun}
-use Rattle.field.proofs.Octets.{octet_small}
+use Rattle.field.proofs.Octets.{octet, octet_small}
 
 -- eight more
 module _ (s : List ℕ) (at n : ℕ) where
@@ -42,5 +42,5 @@ module _ (s : List ℕ) (at n r : ℕ) (y : LowRun s at n r) where
   run_there : (i : ℕ) → i < r → at + i < length s
   run_there i h = omega (arith, y.within)
 
-  pub run_octet : (i : ℕ) → i < r → Byte (get_or s (at + i) 0) (at + i + 1) ≡ octet_at s (at + i)
+  pub run_octet : (i : ℕ) → i < r → Some (octet (get_or s (at + i) 0) (at + i + 1)) ≡ octet_at s (at + i)
   run_octet i h = octet_small s (at + i) (run_there i h) (y.low i h)

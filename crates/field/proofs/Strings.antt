@@ -10,9 +10,10 @@ use lib.ListN.{length, get_or, take, drop, set}
 use borrow.Author.Tests.{le-leb, leb-false}
 use Rattle.octets.specs.{Choice.either, Bytes.put_at}
 use Rattle.octets.proofs.{Places.length_part, Stores.kept, Writing.put_out, Writing.put_none}
+use Rattle.std.specs.Prelude.{Option as Answer, Some, None}
 use Rattle.field.specs.declared.Extent.{Extent}
 use Rattle.field.specs.{Kind.Kind, Kind.Value, Judge.string_sized, Judge.judge, Code.At.shallow_at, Code.At.string_filled, Code.Extent.Bears}
-use Rattle.field.proofs.{Texts.by_text, Intos.put_cons}
+use Rattle.field.proofs.{Texts.by_text, Texts.text_within, Intos.put_cons}
 
 -- one byte more of n
 pub take_more : (s : List ℕ) (from n i : ℕ) → from + n ≤ length s → i < n → take (n - i) (drop (from + i) s) ≡ get_or s (from + i) 0 ∷ take (n - (i + 1)) (drop (from + (i + 1)) s)
@@ -50,15 +51,15 @@ put_sized room d = rw (le-leb 0 (length d) (omega arith)) (go (leb (length d) (l
     go true e = refl
     go false e = put_out room 0 d (omega (arith, leb-false (length d) (length room) e))
 
-module _ (s : List ℕ) (at : ℕ) (p : Extent) (y : Bears s at p) (room : List ℕ) where
-  pub text_there : (out : List ℕ) → p.there ≡ true → out ≡ put_at room 0 (take p.size (drop p.from s)) → out ≡ string_filled (judge (Kind.texts 0 (length room)) (shallow_at s at)) room
+module _ (s : List ℕ) (at : ℕ) (p : Answer Extent) (y : Bears s at p) (room : List ℕ) where
+  pub text_there : (t : Extent) → p ≡ Some t → (out : List ℕ) → out ≡ put_at room 0 (take t.size (drop t.from s)) → out ≡ string_filled (judge (Kind.texts 0 (length room)) (shallow_at s at)) room
   unfolding judge
-  text_there out t e =
-      e ∙ put_sized room (take p.size (drop p.from s))
-      ∙ ap (λ (o : Option Value). string_filled o room) (by_text s at p y true t (string_sized 0 (length room)))
+  text_there t u out e =
+      e ∙ put_sized room (take t.size (drop t.from s))
+      ∙ ap (λ (o : Option Value). string_filled o room) (by_text s at p y (Some t) u (string_sized 0 (length room)))
 
-  pub text_not : p.there ≡ false → room ≡ string_filled (judge (Kind.texts 0 (length room)) (shallow_at s at)) room
+  pub text_not : p ≡ None → room ≡ string_filled (judge (Kind.texts 0 (length room)) (shallow_at s at)) room
   unfolding judge
-  text_not t = ap (λ (o : Option Value). string_filled o room) (by_text s at p y false t (string_sized 0 (length room)))
+  text_not t = ap (λ (o : Option Value). string_filled o room) (by_text s at p y None t (string_sized 0 (length room)))
 
-pub ruleset texts_into = (text_there, text_not, arith)
+pub ruleset texts_into = (text_within, text_there, text_not, arith)

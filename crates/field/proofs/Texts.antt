@@ -1,6 +1,6 @@
 -- Texts: a lead byte of the class text with its body there, short or with a length of its own. No other class is a text.
 -- Each law in the shape of a need of the code. Assumes nothing.
-use mathlib.Core.Path.{◌≡◌, refl, sym, ap, ◌∙◌}
+use mathlib.Core.Path.{◌≡◌, refl, sym, ap, subst, ◌∙◌}
 use mathlib.Core.Bool.{Bool, true, false, ◌&&◌, and-false}
 use mathlib.Core.{List.List, Option.Option, Option.some, Option.none}
 use Prim.Native.Nat.{ℕ, ◌+◌, ◌-◌, ◌≤◌, ◌<◌}
@@ -19,13 +19,18 @@ use Rattle.element.specs.Form.{is_text, body_of, content_of, span_of}
 use Rattle.element.specs.{Meaning.leaf_of, Code.At.body_from, Code.At.leaf_at}
 use Rattle.element.proofs.At.{by_span}
 use Rattle.walk.proofs.Leads.{text_low, says_fixtext}
-use Rattle.field.specs.declared.{Judged.Judged, Opened.Opened, Extent.Extent}
+use Rattle.std.specs.Prelude.{Option as Answer, Some, None}
+use Rattle.field.specs.declared.{Opened.Opened, Extent.Extent}
 use Rattle.field.specs.{Kind.Kind, Kind.Value, Code.At.shallow_at}
 use Rattle.field.specs.Judge.{on_some, text_of, string_sized, judge}
-use Rattle.field.specs.Code.Read.{badly, well, tell_of, read_at, sized_of}
-use Rattle.field.specs.Code.Extent.{opened_at, nowhere, part_from, bytes_by, Bears}
+use Rattle.field.specs.{Cell.word_of, Code.Told.unkept, Code.Read.tell, Code.Read.read_at, Code.Read.sized_of}
+use Rattle.field.specs.Code.Extent.{opened_at, part_from, part_bytes, Bears}
 use Rattle.field.proofs.Shallow.{leaf_view, leaf_all, shallow_past, shallow_cut}
 use Rattle.field.proofs.Heads.{span_bare, by_opened}
+
+abbrev bytes_by : Bool → List ℕ → Option (List ℕ)
+bytes_by true d = some d
+bytes_by false d = none
 
 of_class : (c : Class) (b : ℕ) (d : List ℕ) → text_of (leaf_of c b d) ≡ bytes_by (is_text (shape_of c)) d
 of_class Class.small b d = refl
@@ -43,8 +48,8 @@ of_class Class.unsigned b d = refl
 of_class Class.signed b d = refl
 
 -- a part that is not there
-bears_nowhere : (s : List ℕ) (at : ℕ) (r : Extent) → r ≡ nowhere → text_of (shallow_at s at) ≡ none → Bears s at r
-bears_nowhere s at r e q = rw e (record { is = q; within = omega arith })
+bears_nowhere : (s : List ℕ) (at : ℕ) → text_of (shallow_at s at) ≡ none → Bears s at None
+bears_nowhere s at q = record { is = q; within = λ x e. absurd (let z : ◌≡◌ {A = ℕ} 0 1 = cc in omega arith) }
 
 module _ (s : List ℕ) (at : ℕ) where
   text_there : text_of (shallow_at s at) ≡ text_of (leaf_at s at)
@@ -71,23 +76,26 @@ module _ (s : List ℕ) (at : ℕ) where
         ∙ ap (λ (x : ℕ). some (take (from + n - x) (drop x s))) (sym f)
         ∙ ap (λ (x : ℕ). some (take x (drop from s))) k
 
-  bears_part : (r : Extent) (from n : ℕ) → from ≤ length s → is_text (head_of (get_or s at 0)).shape ≡ true → from ≡ body_from s at → span_of s at ≡ body_of (length s) from n → r ≡ part_from (length s) from n → Bears s at r
+  bears_part : (r : Answer Extent) (from n : ℕ) → from ≤ length s → is_text (head_of (get_or s at 0)).shape ≡ true → from ≡ body_from s at → span_of s at ≡ body_of (length s) from n → r ≡ part_from (length s) from n → Bears s at r
   unfolding part_from body_of
   bears_part r from n w h f span e = rw e (go (leb n (length s - from)) refl)
     where
-      go : (t : Bool) → leb n (length s - from) ≡ t → Bears s at (either t (λ _. record { there = true; from = from; size = n }) (λ _. nowhere))
+      go : (t : Bool) → leb n (length s - from) ≡ t → Bears s at (either t (λ _. Some (record { from = from; size = n })) (λ _. None))
       go true u =
           let g : from + n ≤ length s = omega (arith, leb-true n (length s - from) u) in
-          record { is = text_some from n h f g (span ∙ simp u); within = g }
-      go false u = bears_nowhere s at nowhere refl (ap text_of (shallow_cut s at (span ∙ simp u)))
+          record {
+            is = text_some from n h f g (span ∙ simp u);
+            within = λ x q. let z : record { from = from; size = n } ≡ x = cc in subst (λ (y : Extent). y.from + y.size ≤ length s) z g;
+          }
+      go false u = bears_nowhere s at (ap text_of (shallow_cut s at (span ∙ simp u)))
 
-  module _ (r : Extent) where
-    pub bears_past : r ≡ nowhere → length s ≤ at → Bears s at r
-    bears_past e h = bears_nowhere s at r e (ap text_of (shallow_past s at h))
+  pub bears_past : length s ≤ at → Bears s at None
+  bears_past h = bears_nowhere s at (ap text_of (shallow_past s at h))
 
-    pub bears_low : r ≡ nowhere → get_or s at 0 < 0xA0 → Bears s at r
-    bears_low e h = bears_nowhere s at r e (text_none (text_low (get_or s at 0) h))
+  pub bears_low : get_or s at 0 < 0xA0 → Bears s at None
+  bears_low h = bears_nowhere s at (text_none (text_low (get_or s at 0) h))
 
+  module _ (r : Answer Extent) where
     pub bears_fix : at < length s → 0xA0 ≤ get_or s at 0 → get_or s at 0 < 0xC0 → r ≡ part_from (length s) (at + 1) (get_or s at 0 - 0xA0) → Bears s at r
     bears_fix there g h e =
         let y = (says_fixtext (get_or s at 0) g h).is in
@@ -110,71 +118,74 @@ module _ (s : List ℕ) (at : ℕ) where
           body Array len from n z = true_false (sym z)
           body Map len from n z = true_false (sym z)
 
-      pub bears_other : t ≡ false → r ≡ nowhere → Bears s at r
-      bears_other u p =
-          bears_nowhere s at r p
-          (by_opened s at (λ x. t ≡ is_text x.shape → text_of (shallow_at s at) ≡ none)
-          (λ cut f. ap text_of (shallow_cut s at cut))
-          (λ w span f. text_none (sym u ∙ f))
-          (q ∙ ap (λ (x : Opened). is_text x.shape) e))
+  pub bears_other : (o : Opened) → o ≡ opened_at s at → (t : Bool) → t ≡ is_text o.shape → t ≡ false → Bears s at None
+  bears_other o e t q u =
+      bears_nowhere s at
+      (by_opened s at (λ x. t ≡ is_text x.shape → text_of (shallow_at s at) ≡ none)
+      (λ cut f. ap text_of (shallow_cut s at cut))
+      (λ w span f. text_none (sym u ∙ f))
+      (q ∙ ap (λ (x : Opened). is_text x.shape) e))
 
-pub part_there : (len from n : ℕ) → n ≤ len - from → record { there = true; from = from; size = n } ≡ part_from len from n
+pub part_there : (len from n : ℕ) → n ≤ len - from → Some (record { from = from; size = n }) ≡ part_from len from n
 unfolding part_from
 part_there len from n h = simp (le-leb n (len - from) h)
 
-pub part_not : (r : Extent) (len from n : ℕ) → r ≡ nowhere → len - from < n → r ≡ part_from len from n
+pub part_not : (len from n : ℕ) → len - from < n → None ≡ part_from len from n
 unfolding part_from
-part_not r len from n e h = e ∙ simp (lt-leb n (len - from) h)
+part_not len from n h = simp (lt-leb n (len - from) h)
 
 pub ruleset parts = (part_there, part_not, bears_past, bears_low, bears_fix, bears_open, bears_other, arith)
 
 -- how many bytes
-module _ (r : Judged) (lo hi n : ℕ) where
-  pub sized_few : r ≡ badly → n < lo → r ≡ sized_of lo hi n
+module _ (lo hi n : ℕ) where
+  pub sized_few : n < lo → None ≡ sized_of lo hi n
   unfolding sized_of
-  sized_few e h = e ∙ simp (lt-leb lo n h)
+  sized_few h = simp (lt-leb lo n h)
 
-  pub sized_many : r ≡ badly → hi < n → r ≡ sized_of lo hi n
+  pub sized_many : hi < n → None ≡ sized_of lo hi n
   unfolding sized_of
-  sized_many e h = e ∙ simp (lt-leb n hi h, and-false)
+  sized_many h = simp (lt-leb n hi h, and-false)
 
-  pub sized_in : r ≡ well n → lo ≤ n → n ≤ hi → r ≡ sized_of lo hi n
+  pub sized_in : lo ≤ n → n ≤ hi → Some n ≡ sized_of lo hi n
   unfolding sized_of
-  sized_in e g h = e ∙ simp (le-leb lo n g, le-leb n hi h)
+  sized_in g h = simp (le-leb lo n g, le-leb n hi h)
 
 pub ruleset sizes = (sized_few, sized_many, sized_in, arith)
 
 -- so many bytes of a list that has them
-pub sized_told : (lo hi : ℕ) (d : List ℕ) → sized_of lo hi (length d) ≡ tell_of (string_sized lo hi d)
-unfolding sized_of tell_of
+pub sized_told : (lo hi : ℕ) (d : List ℕ) → sized_of lo hi (length d) ≡ tell word_of (string_sized lo hi d)
+unfolding sized_of tell
 sized_told lo hi d = go (leb lo (length d) && leb (length d) hi)
   where
-    go : (t : Bool) → either t (λ _. well (length d)) (λ _. badly) ≡ tell_of (either t (λ _. some (Value.string d)) (λ _. none))
+    go : (t : Bool) → either t (λ _. Some (length d)) (λ _. None) ≡ tell word_of (either t (λ _. some (Value.string d)) (λ _. none))
     go true = refl
     go false = refl
 
-module _ (s : List ℕ) (at : ℕ) (p : Extent) (y : Bears s at p) where
-  pub by_text : (t : Bool) → p.there ≡ t → (f : List ℕ → Option Value) → on_some (bytes_by t (take p.size (drop p.from s))) f ≡ on_some (text_of (shallow_at s at)) f
-  by_text t e f = ap (λ (o : Option (List ℕ)). on_some o f) (ap (λ (b : Bool). bytes_by b (take p.size (drop p.from s))) (sym e) ∙ sym y.is)
+-- what a kind makes of the text at a place
+module _ (s : List ℕ) (at : ℕ) (p : Answer Extent) (y : Bears s at p) where
+  pub by_text : (o : Answer Extent) → p ≡ o → (f : List ℕ → Option Value) → on_some (part_bytes s o) f ≡ on_some (text_of (shallow_at s at)) f
+  by_text o e f = ap (λ (b : Option (List ℕ)). on_some b f) (ap (part_bytes s) (sym e) ∙ sym y.is)
 
-module _ (s : List ℕ) (at : ℕ) (p : Extent) (y : Bears s at p) (r : Judged) where
-  pub word_good : r ≡ well 0 → p.there ≡ true → r ≡ read_at Kind.words s at
-  unfolding read_at judge tell_of
-  word_good e t = e ∙ ap tell_of (by_text s at p y true t (λ d. some Value.nothing))
+  pub text_within : (t : Extent) → p ≡ Some t → t.from + t.size ≤ length s
+  text_within t e = y.within t e
 
-  pub word_bad : r ≡ badly → p.there ≡ false → r ≡ read_at Kind.words s at
-  unfolding read_at judge tell_of
-  word_bad e t = e ∙ ap tell_of (by_text s at p y false t (λ d. some Value.nothing))
+  pub word_bad : p ≡ None → None ≡ read_at unkept Kind.words s at
+  unfolding read_at judge tell
+  word_bad e = ap (tell unkept) (by_text None e (λ d. some Value.nothing))
 
-  module _ (lo hi : ℕ) where
-    pub string_good : r ≡ sized_of lo hi p.size → p.there ≡ true → r ≡ read_at (Kind.texts lo hi) s at
+  pub string_bad : p ≡ None → (lo hi : ℕ) → None ≡ read_at word_of (Kind.texts lo hi) s at
+  unfolding read_at judge tell
+  string_bad e lo hi = ap (tell word_of) (by_text None e (string_sized lo hi))
+
+  module _ (t : Extent) (e : p ≡ Some t) where
+    pub word_good : Some tt ≡ read_at unkept Kind.words s at
+    unfolding read_at judge tell
+    word_good = ap (tell unkept) (by_text (Some t) e (λ d. some Value.nothing))
+
+    pub string_good : (r : Answer ℕ) (lo hi : ℕ) → r ≡ sized_of lo hi t.size → r ≡ read_at word_of (Kind.texts lo hi) s at
     unfolding read_at judge
-    string_good e t =
-        e ∙ ap (sized_of lo hi) (sym (length_part s p.from p.size y.within))
-        ∙ sized_told lo hi (take p.size (drop p.from s)) ∙ ap tell_of (by_text s at p y true t (string_sized lo hi))
-
-    pub string_bad : r ≡ badly → p.there ≡ false → r ≡ read_at (Kind.texts lo hi) s at
-    unfolding read_at judge tell_of
-    string_bad e t = e ∙ ap tell_of (by_text s at p y false t (string_sized lo hi))
+    string_good r lo hi q =
+        q ∙ ap (sized_of lo hi) (sym (length_part s t.from t.size (text_within t e)))
+        ∙ sized_told lo hi (take t.size (drop t.from s)) ∙ ap (tell word_of) (by_text (Some t) e (string_sized lo hi))
 
 pub ruleset texts = (word_good, word_bad, string_good, string_bad)

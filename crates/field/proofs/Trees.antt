@@ -15,8 +15,8 @@ use Rattle.element.specs.{Meaning.Elements.no_more, Meaning.Elements.more, Meani
 use Rattle.element.specs.Lead.{class_of}
 use Rattle.element.specs.Meaning.{Elements, Fields, meaning_of, meaning_of_all, meaning_of_pairs}
 use Rattle.element.proofs.At.{leaf_at_lem, array_at, map_at}
-use Rattle.number.specs.declared.Number.{Number, TheVariants.Not}
-use Rattle.number.specs.Number.{number_of}
+use Rattle.std.specs.Prelude.{None}
+use Rattle.number.specs.Number.{Found, number_of}
 use Rattle.field.specs.{Kind.Kind, Cell.Said, Cell.judged, Cell.cell_of}
 use Rattle.field.specs.Code.At.{leaves_from, shallow_at, leaves_end, nested_from, nested_at, is_nested, seen_at, cell_at}
 use Rattle.field.specs.Judge.{on_some, natural_in, real_in, naturals_in, octets_in, pieces_in, reals_in, three_of, counts_sized, strings_sized, string_sized, judge}
@@ -24,7 +24,7 @@ use Rattle.field.proofs.Standing.{leaf_end, leaf_shallow, leaf_nested, array_spa
 use Rattle.field.proofs.Arrays.{no_parts}
 
 -- what every part of an array is, as a test on its number says; none where one part is not
-module _ {A : Type 0} (pick : Number → Option A) where
+module _ {A : Type 0} (pick : Found → Option A) where
   abbrev joined : Option A → Option (List A) → Option (List A)
   joined x xs = on_some x (λ y. on_some xs (λ ys. some (y ∷ ys)))
 
@@ -32,7 +32,7 @@ module _ {A : Type 0} (pick : Number → Option A) where
   gathered no_more = some []
   gathered (more e es) = joined (pick (number_of e)) (gathered es)
 
-  module _ (s : List ℕ) (stop : pick Not ≡ none) where
+  module _ (s : List ℕ) (stop : pick None ≡ none) where
     -- the parts read as leaves give what the parts mean
     gathered_tree : (ts : Trees) (at : ℕ) (t : List ℕ) → LawfulAll ts → drop at s ≡ bytes_of_all ts ++ t
         → gathered (leaves_from s (part_count ts) at) ≡ gathered (meaning_of_all ts)

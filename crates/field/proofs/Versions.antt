@@ -11,7 +11,7 @@ use lib.Dec.{leb, eqb}
 use borrow.Author.Tests.{le-leb, lt-leb, ne_eqb, leb-true, leb-false, eqb-true, eqb-false}
 use Rattle.octets.specs.Choice.{either}
 use Rattle.octets.proofs.Ranges.{true_false}
-use Rattle.field.specs.declared.Fed.TheVariants.{On, Off}
+use Rattle.std.specs.Prelude.{Some, None}
 use Rattle.field.specs.Kind.{Value}
 use Rattle.field.specs.Version.{grown, cut_at_dots, digits_from, at_most, number_of_part, released, three, version_of}
 use Rattle.field.specs.Code.Feed.{release, unfed, dot_by, dotted_of, digit_of, fed_of, on_fed, fed_all, outcome_of}
@@ -90,22 +90,22 @@ abbrev behind : List ℕ → List (List ℕ) → List (List ℕ)
 behind pre [] = pre ∷ []
 behind pre (p ∷ ps) = (pre ++ p) ∷ ps
 
-data Some : List (List ℕ) → Type 0 where
-  parts : (p : List ℕ) (ps : List (List ℕ)) → Some (p ∷ ps)
+data Parts : List (List ℕ) → Type 0 where
+  parts : (p : List ℕ) (ps : List (List ℕ)) → Parts (p ∷ ps)
 
-some_part : (cs : List ℕ) → Some (cut_at_dots cs)
+some_part : (cs : List ℕ) → Parts (cut_at_dots cs)
 unfolding cut_at_dots
 some_part [] = parts [] []
 some_part (c ∷ cs) = go (eqb c 0x2E) (cut_at_dots cs) (some_part cs)
   where
-    go : (t : Bool) (l : List (List ℕ)) → Some l → Some (either t (λ _. [] ∷ l) (λ _. grown c l))
+    go : (t : Bool) (l : List (List ℕ)) → Parts l → Parts (either t (λ _. [] ∷ l) (λ _. grown c l))
     go true l y = parts [] l
     go false l (parts p ps) = parts (c ∷ p) ps
 
-behind_none : (l : List (List ℕ)) → Some l → behind [] l ≡ l
+behind_none : (l : List (List ℕ)) → Parts l → behind [] l ≡ l
 behind_none l (parts p ps) = refl
 
-behind_more : (pre : List ℕ) (c : ℕ) (l : List (List ℕ)) → Some l → behind pre (grown c l) ≡ behind (pre ++ (c ∷ [])) l
+behind_more : (pre : List ℕ) (c : ℕ) (l : List (List ℕ)) → Parts l → behind pre (grown c l) ≡ behind (pre ++ (c ∷ [])) l
 behind_more pre c l (parts p ps) = ap (λ (x : List ℕ). x ∷ ps) (sym (append_assoc pre (c ∷ []) p))
 
 -- the bytes that are left end as all of them together
@@ -120,7 +120,7 @@ ends_third g pre a b n fresh = refl
 ends_third g pre a b n naught = rw (current_number (0x30 ∷ []) 0 naught)
 ends_third g pre a b n (number c cs m h e p l) = rw (current_number (c ∷ cs) m (number c cs m h e p l))
 
-ends_now : (ds : List (List ℕ)) (pre : List ℕ) (k : ℕ) (g : Bool) (a b n : ℕ) → Done ds k a b → Current pre g n → outcome_of (On (release k g a b n)) ≡ three (ds ++ (pre ∷ []))
+ends_now : (ds : List (List ℕ)) (pre : List ℕ) (k : ℕ) (g : Bool) (a b n : ℕ) → Done ds k a b → Current pre g n → outcome_of (Some (release k g a b n)) ≡ three (ds ++ (pre ∷ []))
 ends_now ds pre k g a b n nothing y = refl
 ends_now ds pre k g a b n (first p x e) y = refl
 ends_now ds pre k g a b n (second p q x z e f) y = rw (e, f) (ends_third g pre x z n y)
@@ -134,7 +134,7 @@ dot_ends cs ih ds pre k a b n (first p x f) e =
     ∙ ap (λ (l : List (List ℕ)). three (p ∷ (pre ∷ l))) (behind_none (cut_at_dots cs) (some_part cs))
 dot_ends cs ih ds pre k a b n (second p q x z f g) e = go (cut_at_dots cs) (some_part cs)
   where
-    go : (l : List (List ℕ)) → Some l → none ≡ three (p ∷ (q ∷ (pre ∷ l)))
+    go : (l : List (List ℕ)) → Parts l → none ≡ three (p ∷ (q ∷ (pre ∷ l)))
     go l (parts r rs) = refl
 
 after_dot : (cs : List ℕ) → Ends cs → (ds : List (List ℕ)) (pre : List ℕ) (k : ℕ) (g : Bool) (a b n : ℕ) → Done ds k a b → Current pre g n → outcome_of (on_fed (dotted_of (release k g a b n)) (λ w. fed_all w cs)) ≡ three (ds ++ (pre ∷ cut_at_dots cs))
@@ -156,7 +156,7 @@ other_part pre g n c p (number x xs m h e q l) t =
 bad_part : (cs : List ℕ) (ds : List (List ℕ)) (pre : List ℕ) (k a b c : ℕ) → Done ds k a b → ((p : List ℕ) → number_of_part (pre ++ (c ∷ p)) ≡ none) → none ≡ three (ds ++ behind pre (grown c (cut_at_dots cs)))
 bad_part cs ds pre k a b c D h = go (cut_at_dots cs) (some_part cs)
   where
-    go : (l : List (List ℕ)) → Some l → none ≡ three (ds ++ behind pre (grown c l))
+    go : (l : List (List ℕ)) → Parts l → none ≡ three (ds ++ behind pre (grown c l))
     go l (parts p ps) = sym (no_part ds k a b D (pre ++ (c ∷ p)) ps (h p))
 
 -- a digit
@@ -203,7 +203,7 @@ after_digit cs ih ds pre k g a b n c D naught t = bad_part cs ds (0x30 ∷ []) k
 after_digit cs ih ds pre k g a b n c D (number x xs m h e p l) t =
     simp (ne_eqb m 0 (λ z. omega arith)) (go (leb (m * 10 + (c - 0x30)) 65535) refl)
   where
-    go : (u : Bool) → leb (m * 10 + (c - 0x30)) 65535 ≡ u → outcome_of (on_fed (either u (λ _. On (release k true a b (m * 10 + (c - 0x30)))) (λ _. Off)) (λ w. fed_all w cs)) ≡ three (ds ++ behind (x ∷ xs) (grown c (cut_at_dots cs)))
+    go : (u : Bool) → leb (m * 10 + (c - 0x30)) 65535 ≡ u → outcome_of (on_fed (either u (λ _. Some (release k true a b (m * 10 + (c - 0x30)))) (λ _. None)) (λ w. fed_all w cs)) ≡ three (ds ++ behind (x ∷ xs) (grown c (cut_at_dots cs)))
     go true f =
         ih ds ((x ∷ xs) ++ (c ∷ [])) k true a b (m * 10 + (c - 0x30)) D
         (next_digit x xs m c h e p t (leb-true (m * 10 + (c - 0x30)) 65535 f))
@@ -215,7 +215,7 @@ after : (c : ℕ) (cs : List ℕ) → Ends cs → Ends (c ∷ cs)
 unfolding fed_all fed_of cut_at_dots
 after c cs ih ds pre k g a b n D y = go (eqb c 0x2E) (is_digit c) refl
   where
-    go : (t u : Bool) → is_digit c ≡ u → outcome_of (on_fed (either t (λ _. dotted_of (release k g a b n)) (λ _. either u (λ _. digit_of (release k g a b n) (c - 0x30)) (λ _. Off))) (λ w. fed_all w cs)) ≡ three (ds ++ behind pre (either t (λ _. [] ∷ cut_at_dots cs) (λ _. grown c (cut_at_dots cs))))
+    go : (t u : Bool) → is_digit c ≡ u → outcome_of (on_fed (either t (λ _. dotted_of (release k g a b n)) (λ _. either u (λ _. digit_of (release k g a b n) (c - 0x30)) (λ _. None))) (λ w. fed_all w cs)) ≡ three (ds ++ behind pre (either t (λ _. [] ∷ cut_at_dots cs) (λ _. grown c (cut_at_dots cs))))
     go true u e = after_dot cs ih ds pre k g a b n D y ∙ ap (λ (p : List ℕ). three (ds ++ (p ∷ cut_at_dots cs))) (sym (append-nil pre))
     go false true e = after_digit cs ih ds pre k g a b n c D y e
     go false false e = bad_part cs ds pre k a b c D (λ p. other_part pre g n c p y e)

@@ -9,10 +9,11 @@ use Rattle.element.specs.declared.Shape.{Shape, TheVariants.Never, TheVariants.P
 use Rattle.element.specs.declared.Span.TheVariants.{Cut, Ends}
 use Rattle.element.specs.{Lead.Class, Lead.class_of, Lead.head_of, Form.is_map, Form.body_of, Form.content_of, Meaning.Element, Meaning.leaf_of}
 use Rattle.element.specs.{Meaning.Element.null, Meaning.Element.list, Meaning.Element.table, Meaning.Fields.no_field, Code.At.leaf_at}
-use Rattle.field.specs.declared.{Judged.Judged, Opened.Opened}
+use Rattle.std.specs.Prelude.{Some, None}
+use Rattle.field.specs.declared.Opened.{Opened}
 use Rattle.field.specs.{Kind.Kind, Kind.Value, Judge.when, Judge.is_table, Judge.judge, Code.At.leaves_from, Code.At.shallow_by, Code.At.shallow_at}
 use Rattle.field.specs.{Code.Extent.opened_at}
-use Rattle.field.specs.Code.Read.{badly, well, tell_of, read_at}
+use Rattle.field.specs.{Code.Told.unkept, Code.Read.tell, Code.Read.read_at}
 use Rattle.field.proofs.{Shallow.by_shallow, Shallow.shallow_cut, Shallow.leaf_all, Heads.by_opened}
 
 -- what a view sees that sees all leaves as x
@@ -72,17 +73,17 @@ table_there s at =
     go Array = refl
     go Map = refl
 
-module _ (s : List ℕ) (at : ℕ) (o : Opened) (e : o ≡ opened_at s at) (t : Bool) (q : t ≡ is_map o.shape) (r : Judged) where
-  by_map : (b : Bool) → t ≡ b → tell_of (when b Value.nothing) ≡ read_at Kind.maps s at
+module _ (s : List ℕ) (at : ℕ) (o : Opened) (e : o ≡ opened_at s at) (t : Bool) (q : t ≡ is_map o.shape) where
+  by_map : (b : Bool) → t ≡ b → tell unkept (when b Value.nothing) ≡ read_at unkept Kind.maps s at
   unfolding read_at judge
-  by_map b u = ap (λ (y : Bool). tell_of (when y Value.nothing)) (sym u ∙ q ∙ ap (λ (y : Opened). is_map y.shape) e ∙ sym (table_there s at))
+  by_map b u = ap (λ (y : Bool). tell unkept (when y Value.nothing)) (sym u ∙ q ∙ ap (λ (y : Opened). is_map y.shape) e ∙ sym (table_there s at))
 
-  pub map_good : r ≡ well 0 → t ≡ true → r ≡ read_at Kind.maps s at
-  unfolding tell_of
-  map_good g u = g ∙ by_map true u
+  pub map_good : t ≡ true → Some tt ≡ read_at unkept Kind.maps s at
+  unfolding tell
+  map_good u = by_map true u
 
-  pub map_bad : r ≡ badly → t ≡ false → r ≡ read_at Kind.maps s at
-  unfolding tell_of
-  map_bad g u = g ∙ by_map false u
+  pub map_bad : t ≡ false → None ≡ read_at unkept Kind.maps s at
+  unfolding tell
+  map_bad u = by_map false u
 
 pub ruleset maps = (map_good, map_bad)

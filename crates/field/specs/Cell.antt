@@ -5,7 +5,7 @@ use lib.{IntN.ℤ, IntN.pos, Ieee.Float, Ieee.binary64, Ieee.of_bits, ListN.leng
 use Rattle.octets.specs.Signed.{bits_of}
 use Rattle.element.specs.Meaning.{Element}
 use Rattle.field.specs.{Kind.Kind, Kind.Value, Judge.judge}
-use Rattle.field.specs.declared.Position.{Position}
+use Rattle.field.specs.declared.{Position.Position, Released.Released}
 
 -- a key stands nowhere, once with an element, or more often
 pub data Said : Type 0 where
@@ -92,6 +92,13 @@ figure_of v = (views_of v).figure
 abbrev pub position_of : Value → Position
 position_of v = (views_of v).position
 
--- the i-th of a version's three numbers
+abbrev pub mark_of : Value → Bool
+mark_of v = (views_of v).mark
+
+-- a version's three numbers
+abbrev pub release_of : Value → Released
+release_of v = record { major = get_or (views_of v).release 0 0; minor = get_or (views_of v).release 1 0; patch = get_or (views_of v).release 2 0 }
+
+-- the i-th of them
 abbrev pub number_in : ℕ → Cell → ℕ
 number_in i c = get_or (views_of (value_in c)).release i 0

@@ -1,5 +1,5 @@
 -- What an element is worth under a kind: its value, or none where it is invalid (document 01's 15).
-use Rattle.std.specs.Prelude.{ℕ, suc, ◌^◌, Bool, true, false, ◌&&◌, Float}
+use Rattle.std.specs.Prelude.{ℕ, suc, ◌^◌, Bool, true, false, ◌&&◌, Float, Some, None}
 use mathlib.Core.{List.List, List.[], List.◌∷◌, Option.Option, Option.some, Option.none}
 use lib.{Dec.leb, IntN.ℤ, IntN.pos, IntN.negsuc, ListN.length}
 use Rattle.std.specs.Float.{binary32, binary64}
@@ -7,8 +7,8 @@ use Rattle.std.specs.Float.Ieee.{of_int, fits}
 use Rattle.octets.specs.{Choice.either, Pieces.strung}
 use Rattle.element.specs.{Meaning.Element, Meaning.Elements, Meaning.Elements.no_more, Meaning.Elements.more}
 use Rattle.element.specs.Meaning.Element.{null, truth, whole, single, double, text, octets, typed, list, table}
-use Rattle.number.specs.declared.Number.{Number, TheVariants.Signed, TheVariants.Unsigned, TheVariants.Real, TheVariants.Not}
-use Rattle.number.specs.Number.{number_of}
+use Rattle.number.specs.declared.Number.TheVariants.{Signed, Unsigned, Real}
+use Rattle.number.specs.Number.{Found, number_of}
 use Rattle.field.specs.{Kind.Kind, Kind.Value, Version.version_of}
 
 abbrev pub when : Bool → Value → Option Value
@@ -23,31 +23,31 @@ abbrev pub in_range : ℕ → ℕ → ℤ → Bool
 in_range lo hi (pos n) = leb n hi
 in_range lo hi (negsuc k) = leb (suc k) lo
 
-abbrev pub whole_in : ℕ → ℕ → Number → Option Value
-whole_in lo hi (Signed z) = when (in_range lo hi z) (Value.number z)
-whole_in lo hi (Unsigned n) = when (leb n hi) (Value.number (pos n))
-whole_in lo hi (Real x) = none
-whole_in lo hi Not = none
+abbrev pub whole_in : ℕ → ℕ → Found → Option Value
+whole_in lo hi (Some (Signed z)) = when (in_range lo hi z) (Value.number z)
+whole_in lo hi (Some (Unsigned n)) = when (leb n hi) (Value.number (pos n))
+whole_in lo hi (Some (Real x)) = none
+whole_in lo hi None = none
 
 -- a whole number from −2^53 to 2^53 is worth the real of exactly that number; 0 is plus zero
 abbrev pub whole_real : ℤ → Option Float
 whole_real z = either (in_range (2 ^ 53) (2 ^ 53) z) (λ _. some (of_int binary64 z)) (λ _. none)
 
 -- a finite real, or such a whole number
-abbrev pub real_in : Number → Option Float
-real_in (Signed z) = whole_real z
-real_in (Unsigned n) = whole_real (pos n)
-real_in (Real x) = some x
-real_in Not = none
+abbrev pub real_in : Found → Option Float
+real_in (Some (Signed z)) = whole_real z
+real_in (Some (Unsigned n)) = whole_real (pos n)
+real_in (Some (Real x)) = some x
+real_in None = none
 
 -- a number from 0 to hi
-abbrev pub natural_in : ℕ → Number → Option ℕ
-natural_in hi (Signed z) = none
-natural_in hi (Unsigned n) = either (leb n hi) (λ _. some n) (λ _. none)
-natural_in hi (Real x) = none
-natural_in hi Not = none
+abbrev pub natural_in : ℕ → Found → Option ℕ
+natural_in hi (Some (Signed z)) = none
+natural_in hi (Some (Unsigned n)) = either (leb n hi) (λ _. some n) (λ _. none)
+natural_in hi (Some (Real x)) = none
+natural_in hi None = none
 
-abbrev pub octet_in : Number → Option ℕ
+abbrev pub octet_in : Found → Option ℕ
 octet_in n = natural_in 255 n
 
 -- views of an element

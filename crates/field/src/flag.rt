@@ -1,22 +1,17 @@
 // Flags: the lead bytes C2 and C3.
 ghost use Rattle.std.specs.Prelude.{◌≡◌};
-ghost use Rattle.field.specs.{Kind.Kind, Code.Read.read_at};
+ghost use Rattle.field.specs.{Kind.Kind, Cell.mark_of, Code.Read.read_at};
 
-use crate::Judged;
-use crate::whole::{bad, good};
-
-pub fn flag_at(s: &[u8], at: usize) -> Judged
-    ensures { result ≡ read_at Kind.flags s.now at }
+#[tactic(auto, using(crate::proofs::Flags::flags))]
+pub fn flag_at(s: &[u8], at: usize) -> Option<bool>
+    ensures { result ≡ read_at mark_of Kind.flags s.now at }
 {
     if s.len() <= at {
-        return bad();
+        return None;
     }
-    let b = s[at];
-    if b == 0xC2 {
-        return good(0);
+    match s[at] {
+        0xC2 => Some(false),
+        0xC3 => Some(true),
+        _ => None,
     }
-    if b == 0xC3 {
-        return good(1);
-    }
-    bad()
 }

@@ -9,6 +9,7 @@ use element::Shape;
 use walk::lead::{head_of, two_to};
 
 // The head at a place; Never where there is no byte, where its length is cut and at C1.
+#[tactic(auto, using(crate::proofs::Heads::openings))]
 pub fn opened_at(s: &[u8], at: usize) -> Opened
     ensures is { result ≡ opened_at s.now at }
     ensures within { result.from ≤ length s.now }
@@ -40,12 +41,12 @@ fn shut() -> Opened
 }
 
 // The place behind a leaf; its own where none stands.
+#[tactic(auto, using(crate::proofs::Heads::ends))]
 fn end_of(s: &[u8], at: usize) -> usize
     ensures { result ≡ end_of at (span_of s.now at) }
 {
     let o = opened_at(s, at);
-    let shape = o.shape;
-    if is_body(shape) {
+    if is_body(o.shape) {
         if o.size <= s.len() - o.from {
             return o.from + o.size;
         }
@@ -54,6 +55,7 @@ fn end_of(s: &[u8], at: usize) -> usize
 }
 
 // The place behind a number: the lead bytes CA to D3 say its bytes.
+#[tactic(auto, using(crate::proofs::Heads::ends))]
 pub fn number_end(s: &[u8], at: usize) -> usize
     ensures { result ≡ end_of at (span_of s.now at) }
 {

@@ -1,15 +1,13 @@
 // Maps, which are checked for type alone.
 ghost use Rattle.std.specs.Prelude.{◌≡◌};
-ghost use Rattle.field.specs.{Kind.Kind, Code.Read.read_at};
+ghost use Rattle.field.specs.{Kind.Kind, Code.Told.unkept, Code.Read.read_at};
 
-use crate::Judged;
 use crate::head::{is_map, opened_at};
-use crate::whole::{bad, good};
 
-pub fn map_at(s: &[u8], at: usize) -> Judged
-    ensures { result ≡ read_at Kind.maps s.now at }
+#[tactic(auto, using(crate::proofs::Views::maps))]
+pub fn map_at(s: &[u8], at: usize) -> Option<()>
+    ensures { result ≡ read_at unkept Kind.maps s.now at }
 {
     let o = opened_at(s, at);
-    let shape = o.shape;
-    if is_map(shape) { good(0) } else { bad() }
+    if is_map(o.shape) { Some(()) } else { None }
 }

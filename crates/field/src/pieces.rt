@@ -1,124 +1,96 @@
 // Data entries: an array of arrays of numbers from 0 to 255, read in one pass.
-ghost use Rattle.std.specs.Prelude.{◌≡◌, ◌≤◌, min, length};
+ghost use Rattle.std.specs.Prelude.{◌≡◌, ◌≤◌, length};
 ghost use Rattle.field.specs.{Kind.Kind, Judge.on_some, Judge.strings_sized, Cell.value_in, Cell.word_of, Cell.views_of, Code.At.cell_at};
-ghost use Rattle.field.specs.{Code.Read.tell_of, Code.Read.read_at, Code.Item.octets_passed, Code.Item.piece_at, Code.Item.pieces_from};
+ghost use Rattle.field.specs.{Code.Read.tell, Code.Read.read_at, Code.Item.octets_passed, Code.Item.piece_at, Code.Item.pieces_from};
 ghost use Rattle.field.specs.Code.Lent.{list_in, entries_at, AreEntries, entries_put};
 
+use crate::Piece;
 use crate::array::{array_at, low_run};
 use crate::into::{array_into, part_at};
-use crate::whole::{bad, good};
-use crate::{Judged, Octet, Piece};
 
 // In a downlink's lent bytes, where the lengths of its data entries begin, and where the entries do.
 const LENGTHS: usize = 64;
 
 const ENTRIES: usize = 80;
 
-pub fn pieces_at(s: &[u8], at: usize, many: usize, most: usize, all: usize) -> Judged
-    ensures { result ≡ read_at (Kind.pieces many most all) s.now at }
+#[tactic(auto, using(crate::proofs::Entries::entries))]
+pub fn pieces_at(s: &[u8], at: usize, many: usize, most: usize, all: usize) -> Option<u64>
+    ensures { result ≡ read_at word_of (Kind.pieces many most all) s.now at }
 {
-    let a = array_at(s, at);
-    if a.there {
-        if many < a.size {
-            return bad();
-        }
-        return pieces_from(s, a.from, a.size, most, all);
+    let a = array_at(s, at)?;
+    if many < a.size {
+        return None;
     }
-    bad()
+    pieces_from(s, a.from, a.size, most, all)
 }
 
 // The n arrays from a place on.
-fn pieces_from(s: &[u8], from: usize, n: usize, most: usize, all: usize) -> Judged
-    ensures { result ≡ tell_of (on_some (pieces_from most s.now n from) (strings_sized n all)) }
+#[tactic(auto, using(crate::proofs::Entries::fittings))]
+fn pieces_from(s: &[u8], from: usize, n: usize, most: usize, all: usize) -> Option<u64>
+    ensures { result ≡ tell word_of (on_some (pieces_from most s.now n from) (strings_sized n all)) }
 {
     let mut q = from;
-    let mut left = n;
     let mut room = all;
-    while 0 < left {
-        match piece_at(s, q, smaller(most, room)) {
-            Piece::Bytes { size, next } => {
-                room -= size;
-                q = next;
-                left -= 1;
-            }
-            Piece::NoBytes => {
-                return bad();
-            }
-        }
+    for i in 0..n {
+        let piece = piece_at(s, q, most.min(room))?;
+        room -= piece.size;
+        q = piece.next;
     }
-    good(n as u64)
-}
-
-fn smaller(a: usize, b: usize) -> usize
-    ensures { result ≡ min a b }
-{
-    if a < b { a } else { b }
+    Some(n as u64)
 }
 
 // The array at a place. One that states more parts than it may have is not looked into.
-fn piece_at(s: &[u8], at: usize, most: usize) -> Piece
+#[tactic(auto, using(crate::proofs::Nested::piece_ats))]
+fn piece_at(s: &[u8], at: usize, most: usize) -> Option<Piece>
     ensures { result ≡ piece_at most s.now at }
 {
-    let a = array_at(s, at);
-    if a.there {
-        if a.size <= most {
-            return octets_passed(s, a.from, a.size);
-        }
+    let a = array_at(s, at)?;
+    if most < a.size {
+        return None;
     }
-    Piece::NoBytes
+    octets_passed(s, a.from, a.size)
 }
 
 // The n parts from a place on. A run of bytes below 0x80 goes first.
-fn octets_passed(s: &[u8], from: usize, n: usize) -> Piece
+#[tactic(auto, using(crate::proofs::Passing::passings))]
+fn octets_passed(s: &[u8], from: usize, n: usize) -> Option<Piece>
     ensures { result ≡ octets_passed s.now n from }
 {
     let run = low_run(s, from, n);
     let mut q = from + run;
-    let mut left = n - run;
-    while 0 < left {
-        match part_at(s, q) {
-            Octet::Byte { value: _, next } => {
-                q = next;
-                left -= 1;
-            }
-            Octet::Unfit => {
-                return Piece::NoBytes;
-            }
-        }
+    for i in run..n {
+        q = part_at(s, q)?.next;
     }
-    Piece::Bytes { size: n, next: q }
+    Some(Piece { size: n, next: q })
 }
 
 // The n data entries of a downlink's field, with their lengths, into its lent bytes.
+#[tactic(auto, using(crate::proofs::Downlinks::entries_told_in))]
 pub fn pieces_into(s: &[u8], p: usize, n: usize, out: &mut [u8])
     requires { (n ≡ word_of (value_in (cell_at (Kind.pieces 16 245 800) s.now p))) × (880 ≤ length out.old) }
     ensures { out.new ≡ entries_put out.old 0 80 (views_of (value_in (cell_at (Kind.pieces 16 245 800) s.now p))).strings }
 {
     if 0 < n {
-        let a = array_at(s, p);
-        entries_into(s, a.from, n, out);
+        if let Some(a) = array_at(s, p) {
+            entries_into(s, a.from, n, out);
+        }
     }
 }
 
 // The n arrays from a place on.
+#[tactic(auto, using(crate::proofs::PutEntries::entries_left))]
 fn entries_into(s: &[u8], from: usize, n: usize, out: &mut [u8])
     requires { AreEntries s.now n from × (880 ≤ length out.old) }
     ensures { out.new ≡ entries_put out.old 0 80 (list_in (entries_at s.now n from)) }
 {
     let mut q = from;
     let mut at = ENTRIES;
-    let mut i: usize = 0;
-    while i < n {
-        match array_into(s, q, out, at) {
-            Piece::Bytes { size, next } => {
-                out[LENGTHS + i] = size as u8;
-                at += size;
-                q = next;
-                i += 1;
-            }
-            Piece::NoBytes => {
-                return;
-            }
-        }
+    for i in 0..n {
+        let Some(piece) = array_into(s, q, out, at) else {
+            return;
+        };
+        out[LENGTHS + i] = piece.size as u8;
+        at += piece.size;
+        q = piece.next;
     }
 }

@@ -1,63 +1,58 @@
 // Reals: finite ones, and whole numbers that stand for them.
-ghost use Rattle.std.specs.Prelude.{◌≡◌};
+ghost use Rattle.std.specs.Prelude.{◌≡◌, Some};
 ghost use lib.{Ieee.binary64, IntN.negsuc};
-ghost use Rattle.number.specs.{Number.real_by, Code.Body.given};
-ghost use Rattle.field.specs.Kind.{Kind};
-ghost use Rattle.field.specs.Code.Read.{figured, tell_of, read_at, real_value_in};
+ghost use Rattle.number.specs.Number.{real_by};
+ghost use Rattle.field.specs.{Kind.Kind, Cell.figure_of};
+ghost use Rattle.field.specs.Code.Read.{tell, read_at, real_value_in};
 
-use crate::whole::bad;
-use crate::{GOOD, Judged};
 use number::narrow::fits_single;
 use number::whole::real_bits;
-use number::{Number, number_at};
-use octets::{big_at, is_there};
+use number::{Number, bits_at, number_at};
 
 // Up to here, either way, a float 64 has every whole number: 2^53.
 const MOST_COUNTED: u64 = 0x20_0000_0000_0000;
 
 // A real. Most are of eight bytes.
-pub fn real_at(s: &[u8], at: usize) -> Judged
-    ensures { result ≡ read_at Kind.reals s.now at }
+#[tactic(auto, using(crate::proofs::Reals::reals))]
+pub fn real_at(s: &[u8], at: usize) -> Option<f64>
+    ensures { result ≡ read_at figure_of Kind.reals s.now at }
 {
-    let len = s.len();
-    if at < len {
+    if at < s.len() {
         if s[at] == 0xCB {
-            return given_real(is_there(len, at + 1, 8), big_at(s, at + 1, 8));
+            return finite(bits_at(s, at + 1, 8)?);
         }
     }
-    real_in(number_at(s, at))
+    real_in(number_at(s, at)?)
 }
 
 // A real that single precision holds exactly.
-pub fn single_at(s: &[u8], at: usize) -> Judged
-    ensures { result ≡ read_at Kind.singles s.now at }
+#[tactic(auto, using(crate::proofs::Singles::singles))]
+pub fn single_at(s: &[u8], at: usize) -> Option<f64>
+    ensures { result ≡ read_at figure_of Kind.singles s.now at }
 {
-    let real = real_at(s, at);
-    if real.state == GOOD {
-        if fits_single(f64::to_bits(real.figure)) {
-            return real;
-        }
-        return bad();
+    let x = real_at(s, at)?;
+    if fits_single(f64::to_bits(x)) {
+        Some(x)
+    } else {
+        None
     }
-    bad()
 }
 
-// A finite real of eight bytes n, where they are there: its exponent's field is not all ones.
-fn given_real(there: bool, n: u64) -> Judged
-    ensures { result ≡ tell_of (real_value_in (given there (real_by binary64 n))) }
+// A finite real of eight bytes n: its exponent's field is not all ones.
+#[tactic(auto, using(crate::proofs::Reals::doubles))]
+fn finite(n: u64) -> Option<f64>
+    ensures { result ≡ tell figure_of (real_value_in (real_by binary64 n)) }
 {
-    if there {
-        if n % 0x8000_0000_0000_0000 / 0x10_0000_0000_0000 == 0x7FF {
-            return bad();
-        }
-        return figure(f64::from_bits(n));
+    if n % 0x8000_0000_0000_0000 / 0x10_0000_0000_0000 == 0x7FF {
+        return None;
     }
-    bad()
+    Some(f64::from_bits(n))
 }
 
 // The range check of reals: a finite one, or a whole number from -2^53 to 2^53.
-fn real_in(n: Number) -> Judged
-    ensures { result ≡ tell_of (real_value_in n) }
+#[tactic(auto, using(crate::proofs::Numbers::turns, crate::proofs::Reals::figures))]
+fn real_in(n: Number) -> Option<f64>
+    ensures { result ≡ tell figure_of (real_value_in (Some n)) }
 {
     match n {
         Number::Signed(z) => {
@@ -68,40 +63,30 @@ fn real_in(n: Number) -> Judged
             }
         }
         Number::Unsigned(u) => real_upto(u),
-        Number::Real(x) => figure(x),
-        Number::Not => bad(),
+        Number::Real(x) => Some(x),
     }
 }
 
 // The real of a whole number from 0 on, up to 2^53.
-fn real_upto(n: u64) -> Judged
-    ensures { result ≡ tell_of (real_value_in (Number.Unsigned n)) }
+#[tactic(auto, using(crate::proofs::Reals::counted))]
+fn real_upto(n: u64) -> Option<f64>
+    ensures { result ≡ tell figure_of (real_value_in (Some (Number.Unsigned n))) }
 {
     if n <= MOST_COUNTED {
-        figure(f64::from_bits(real_bits(false, n)))
+        Some(f64::from_bits(real_bits(false, n)))
     } else {
-        bad()
+        None
     }
 }
 
 // The real of -1 - k, down to -2^53.
-fn real_below(k: u64) -> Judged
-    ensures { result ≡ tell_of (real_value_in (Number.Signed (negsuc k))) }
+#[tactic(auto, using(crate::proofs::Reals::counted))]
+fn real_below(k: u64) -> Option<f64>
+    ensures { result ≡ tell figure_of (real_value_in (Some (Number.Signed (negsuc k)))) }
 {
     if k < MOST_COUNTED {
-        figure(f64::from_bits(real_bits(true, k + 1)))
+        Some(f64::from_bits(real_bits(true, k + 1)))
     } else {
-        bad()
-    }
-}
-
-// A value that is a real.
-fn figure(x: f64) -> Judged
-    ensures { result ≡ figured x }
-{
-    Judged {
-        state: GOOD,
-        word: 0,
-        figure: x,
+        None
     }
 }

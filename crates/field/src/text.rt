@@ -1,45 +1,41 @@
 // Texts: where their bytes stand, and how many there are.
 ghost use Rattle.std.specs.Prelude.{◌≡◌, ◌+◌, ◌≤◌, length, take, drop};
 ghost use Rattle.octets.specs.Bytes.{put_at};
-ghost use Rattle.field.specs.{Kind.Kind, Code.Read.read_at, Code.Read.sized_of, Code.Extent.nowhere, Code.Extent.part_from, Code.Extent.Bears};
+ghost use Rattle.field.specs.{Kind.Kind, Cell.word_of, Code.Told.unkept, Code.Read.read_at, Code.Read.sized_of, Code.Extent.part_from, Code.Extent.Bears};
 
+use crate::Extent;
 use crate::head::{is_text, opened_at};
-use crate::whole::{bad, good};
-use crate::{Extent, Judged};
 
 // A text that is not kept.
-pub fn word_at(s: &[u8], at: usize) -> Judged
-    ensures { result ≡ read_at Kind.words s.now at }
+#[tactic(auto, using(crate::proofs::Texts::texts))]
+pub fn word_at(s: &[u8], at: usize) -> Option<()>
+    ensures { result ≡ read_at unkept Kind.words s.now at }
 {
-    let t = text_at(s, at);
-    if t.there { good(0) } else { bad() }
+    text_at(s, at)?;
+    Some(())
 }
 
-// A text of lo to hi bytes.
-pub fn string_at(s: &[u8], at: usize, lo: usize, hi: usize) -> Judged
-    ensures { result ≡ read_at (Kind.texts lo hi) s.now at }
+// A text of lo to hi bytes: how many it has.
+#[tactic(auto, using(crate::proofs::Texts::texts))]
+pub fn string_at(s: &[u8], at: usize, lo: usize, hi: usize) -> Option<u64>
+    ensures { result ≡ read_at word_of (Kind.texts lo hi) s.now at }
 {
-    let t = text_at(s, at);
-    if t.there {
-        sized(t.size, lo, hi)
-    } else {
-        bad()
-    }
+    let t = text_at(s, at)?;
+    sized(t.size, lo, hi)
 }
 
-pub fn sized(n: usize, lo: usize, hi: usize) -> Judged
+#[tactic(auto, using(crate::proofs::Texts::sizes))]
+fn sized(n: usize, lo: usize, hi: usize) -> Option<u64>
     ensures { result ≡ sized_of lo hi n }
 {
-    if n < lo {
-        return bad();
+    if n < lo || hi < n {
+        return None;
     }
-    if hi < n {
-        return bad();
-    }
-    good(n as u64)
+    Some(n as u64)
 }
 
 // n bytes from a place on into a room, if it has space for them.
+#[tactic(auto, using(crate::proofs::Strings::strings))]
 pub fn copy(s: &[u8], from: usize, n: usize, out: &mut [u8])
     requires { from + n ≤ length s.now }
     ensures { out.new ≡ put_at out.old 0 (take n (drop from s.now)) }
@@ -55,15 +51,16 @@ pub fn copy(s: &[u8], from: usize, n: usize, out: &mut [u8])
 }
 
 // The bytes of the text at a place.
-pub fn text_at(s: &[u8], at: usize) -> Extent
+#[tactic(auto, using(crate::proofs::Texts::parts))]
+pub fn text_at(s: &[u8], at: usize) -> Option<Extent>
     ensures { Bears s.now at result }
 {
     if s.len() <= at {
-        return nowhere();
+        return None;
     }
     let b = s[at];
     if b < 0xA0 {
-        return nowhere();
+        return None;
     }
     if b < 0xC0 {
         return part(s.len(), at + 1, (b - 0xA0) as usize);
@@ -72,40 +69,27 @@ pub fn text_at(s: &[u8], at: usize) -> Extent
 }
 
 // The same with a length of its own.
-fn long_text(s: &[u8], at: usize) -> Extent
+#[tactic(auto, using(crate::proofs::Texts::parts))]
+fn long_text(s: &[u8], at: usize) -> Option<Extent>
     ensures { Bears s.now at result }
 {
     let o = opened_at(s, at);
-    let shape = o.shape;
-    if is_text(shape) {
+    if is_text(o.shape) {
         part(s.len(), o.from, o.size)
     } else {
-        nowhere()
+        None
     }
 }
 
 // n bytes from a place on, where they are within len.
-fn part(len: usize, from: usize, n: usize) -> Extent
+#[tactic(auto, using(crate::proofs::Texts::parts))]
+fn part(len: usize, from: usize, n: usize) -> Option<Extent>
     requires { from ≤ len }
     ensures { result ≡ part_from len from n }
 {
     if n <= len - from {
-        Extent {
-            there: true,
-            from,
-            size: n,
-        }
+        Some(Extent { from, size: n })
     } else {
-        nowhere()
-    }
-}
-
-pub fn nowhere() -> Extent
-    ensures { result ≡ nowhere }
-{
-    Extent {
-        there: false,
-        from: 0,
-        size: 0,
+        None
     }
 }

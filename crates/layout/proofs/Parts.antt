@@ -4,7 +4,7 @@ use mathlib.Core.{Path.◌≡◌, Path.ap, Bool.Bool, Bool.false, List.List, Lis
 use Prim.Native.Nat.{ℕ, ◌+◌}
 use lib.{IntN.ℤ, IntN.pos, Ieee.Float, Ieee.nan, ListN.get_or}
 use Rattle.field.specs.declared.Position.{Position}
-use Rattle.message.specs.declared.{MaybeVersion.MaybeVersion, MaybeMark.MaybeMark}
+use Rattle.message.specs.declared.{Maybe.Maybe, Version.Version}
 use Rattle.record.specs.declared.{Sixteen.Sixteen, Con.Con, ConRsp.ConRsp, StatusRsp.StatusRsp, Packet.Packet, Det.Det, AttPrp.AttPrp, UlData.UlData}
 use Rattle.record.specs.declared.DlDataQue.{DlDataQue}
 use Rattle.layout.specs.Image.{Stretch, con_lies, con_rsp_lies, status_rsp_lies, packet_lies, det_lies, att_prp_lies, ul_data_lies, dl_data_que_lies}
@@ -62,10 +62,10 @@ module _ (ss : List Stretch) where
   abbrev position : ℕ → Position
   position k = record { latitude = real k; longitude = real (k + 1); altitude = real (k + 2) }
 
-  abbrev version : ℕ → MaybeVersion
-  version k = record { here = flag (k + 3); major = num k; minor = num (k + 1); patch = num (k + 2) }
+  abbrev version : ℕ → Maybe Version
+  version k = record { here = flag (k + 3); value = record { major = num k; minor = num (k + 1); patch = num (k + 2) } }
 
-  abbrev maybe_mark : ℕ → MaybeMark
+  abbrev maybe_mark : ℕ → Maybe Bool
   maybe_mark k = record { here = flag k; value = flag (k + 1) }
 
   abbrev con : Con
@@ -101,7 +101,7 @@ module _ (ss : List Stretch) where
     rx_time = num 1;
     rx_duration = record { here = flag 10; value = num 2 };
     packet_cnt = num 8;
-    signal = record { snr = real 3; rssi = real 4; eq_snr = real 5; has_eq_snr = flag 11 };
+    signal = record { snr = real 3; rssi = real 4; eq_snr = record { here = flag 11; value = real 5 } };
     profile_len = num 9;
     profile = sixteen 6;
   }

@@ -9,15 +9,12 @@ use denote.Laws.{Is}
 use denote.Struct.Declared.{row}
 use denote.Enum.Declared.{row as choiceRow}
 use Rattle.field.specs.declared.Position.{Position}
-use Rattle.message.specs.declared.{MaybeWord.MaybeWord, MaybeId.MaybeId, MaybeReal.MaybeReal, MaybePosition.MaybePosition, MaybeVersion.MaybeVersion}
+use Rattle.message.specs.declared.Version.{Version}
 use Rattle.record.specs.declared.{Sixteen.Sixteen, Con.Con, ConRsp.ConRsp, StatusRsp.StatusRsp, Packet.Packet, Det.Det, AttPrp.AttPrp, UlData.UlData}
 use Rattle.record.specs.declared.{DlDataQue.DlDataQue, Body.Body, Message.Message}
 use Rattle.record.specs.{Record.command_in, Says.is_named}
-use Rattle.message.specs.contracts.MaybeWord as the_word
-use Rattle.message.specs.contracts.MaybeId as the-id
-use Rattle.message.specs.contracts.MaybeReal as the-real
-use Rattle.message.specs.contracts.MaybePosition as the-place
-use Rattle.message.specs.contracts.MaybeVersion as the-version
+use Rattle.field.specs.contracts.Position as the-place
+use Rattle.message.specs.contracts.Version as the-version
 use Rattle.record.specs.contracts.Sixteen as the-sixteen
 use Rattle.record.specs.contracts.Con as the-con
 use Rattle.record.specs.contracts.ConRsp as the-con-rsp
@@ -33,23 +30,14 @@ use Rattle.layout.specs.Image.{Stretch, con_lies, con_rsp_lies, status_rsp_lies,
 use Rattle.layout.specs.Taken.{message_at}
 use Rattle.layout.proofs.{Lying.AllFit, Back.named_own, Back.message_back}
 
--- the parts that several records have
-of_word : (w : MaybeWord) (vs : List Val) → Is (row the_word.the_type) w vs → w.value < 256 ^ 8
-of_word w vs g = g.1.1.1.0.1
-
-of_id : (w : MaybeId) (vs : List Val) → Is (row the-id.the_type) w vs → mag w.value < 2 ^ 63
-of_id w vs g = g.1.1.1.0.1
-
-of_real : (w : MaybeReal) (vs : List Val) → Is (row the-real.the_type) w vs → fits binary64 w.value ≡ true
-of_real w vs g = g.1.1.1.0.1
-
+-- the parts that several records have; the value of one that may be absent stands at `.1.1.1.0` of what is said of it
 record Reals (x : Position) : Type 0 where
   latitude : fits binary64 x.latitude ≡ true
   longitude : fits binary64 x.longitude ≡ true
   altitude : fits binary64 x.altitude ≡ true
 
-of_position : (w : MaybePosition) (vs : List Val) → Is (row the-place.the_type) w vs → Reals w.value
-of_position w vs g = let f = g.1.1.1.0.1.1 in record { latitude = f.0.1; longitude = f.1.0.1; altitude = f.1.1.0.1 }
+of_position : (x : Position) (vs : List Val) → Is (row the-place.the_type) x vs → Reals x
+of_position x vs g = let f = g.1.1 in record { latitude = f.0.1; longitude = f.1.0.1; altitude = f.1.1.0.1 }
 
 record Wide (x : Sixteen) : Type 0 where
   high : x.high < 256 ^ 8
@@ -58,31 +46,31 @@ record Wide (x : Sixteen) : Type 0 where
 of_sixteen : (x : Sixteen) (vs : List Val) → Is (row the-sixteen.the_type) x vs → Wide x
 of_sixteen x vs g = record { high = g.1.1.0.1; low = g.1.1.1.0.1 }
 
-record Numbers (v : MaybeVersion) : Type 0 where
+record Numbers (v : Version) : Type 0 where
   major : v.major < 256 ^ 2
   minor : v.minor < 256 ^ 2
   patch : v.patch < 256 ^ 2
 
-of_version : (v : MaybeVersion) (vs : List Val) → Is (row the-version.the_type) v vs → Numbers v
-of_version v vs g = let f = g.1.1.1 in record { major = f.0.1; minor = f.1.0.1; patch = f.1.1.0.1 }
+of_version : (v : Version) (vs : List Val) → Is (row the-version.the_type) v vs → Numbers v
+of_version v vs g = let f = g.1.1 in record { major = f.0.1; minor = f.1.0.1; patch = f.1.1.0.1 }
 
 -- the fields of each command, in the order of their stretches
 of_con : (x : Con) (vs : List Val) → Is (row the-con.the_type) x vs → AllFit (con_lies x)
 unfolding con_lies
 of_con x vs g =
     let f = g.1.1 in
-    let v = of_version x.version _ f.0 in
-    let p = of_position x.geo_location _ f.1.1.1.0 in
+    let v = of_version x.version.value _ f.0.1.1.1.0 in
+    let p = of_position x.geo_location.value _ f.1.1.1.0.1.1.1.0 in
     let u = of_sixteen x.sn_bs_uuid _ f.1.1.1.1.0 in
-    let b = of_id x.sn_bs_op_id _ f.1.1.1.1.1.0 in
-    let s = of_id x.sn_sc_op_id _ f.1.1.1.1.1.1.0 in
+    let b = f.1.1.1.1.1.0.1.1.1.0.1 in
+    let s = f.1.1.1.1.1.1.0.1.1.1.0.1 in
     (f.1.0.1, (b, (s, (p.latitude, (p.longitude, (p.altitude, (u.high, (u.low, (v.major, (v.minor, (v.patch, (tt, (tt, (tt, (tt, (tt, tt))))))))))))))))
 
 of_con_rsp : (x : ConRsp) (vs : List Val) → Is (row the-con-rsp.the_type) x vs → AllFit (con_rsp_lies x)
 unfolding con_rsp_lies
 of_con_rsp x vs g =
     let f = g.1.1 in
-    let v = of_version x.version _ f.0 in
+    let v = of_version x.version.value _ f.0.1.1.1.0 in
     let u = of_sixteen x.sn_sc_uuid _ f.1.1.1.0 in
     (f.1.0.1, (u.high, (u.low, (v.major, (v.minor, (v.patch, (tt, (tt, tt))))))))
 
@@ -90,21 +78,21 @@ of_status_rsp : (x : StatusRsp) (vs : List Val) → Is (row the-status-rsp.the_t
 unfolding status_rsp_lies
 of_status_rsp x vs g =
     let f = g.1.1 in
-    let p = of_position x.geo_location _ f.1.1.1.1.0 in
-    let u = of_word x.uptime _ f.1.1.1.1.1.0 in
-    let t = of_real x.temp _ f.1.1.1.1.1.1.0 in
-    let c = of_real x.cpu_load _ f.1.1.1.1.1.1.1.0 in
-    let m = of_real x.mem_load _ f.1.1.1.1.1.1.1.1.0 in
+    let p = of_position x.geo_location.value _ f.1.1.1.1.0.1.1.1.0 in
+    let u = f.1.1.1.1.1.0.1.1.1.0.1 in
+    let t = f.1.1.1.1.1.1.0.1.1.1.0.1 in
+    let c = f.1.1.1.1.1.1.1.0.1.1.1.0.1 in
+    let m = f.1.1.1.1.1.1.1.1.0.1.1.1.0.1 in
     (f.1.1.0.1, (u, (f.1.1.1.0.1, (p.latitude, (p.longitude, (p.altitude, (t, (c, (m, (f.0.1, (f.1.0.1, (tt, (tt, (tt, (tt, (tt, tt))))))))))))))))
 
 of_packet : (x : Packet) (vs : List Val) → Is (row the-packet.the_type) x vs → AllFit (packet_lies x)
 unfolding packet_lies
 of_packet x vs g =
     let f = g.1.1 in
-    let d = of_word x.rx_duration _ f.1.1.0 in
+    let d = f.1.1.0.1.1.1.0.1 in
     let s = f.1.1.1.1.0.1.1 in
     let u = of_sixteen x.profile _ f.1.1.1.1.1.1.0 in
-    (f.0.1, (f.1.0.1, (d, (s.0.1, (s.1.0.1, (s.1.1.0.1, (u.high, (u.low, (f.1.1.1.0.1, (f.1.1.1.1.1.0.1, (tt, (tt, tt))))))))))))
+    (f.0.1, (f.1.0.1, (d, (s.0.1, (s.1.0.1, (s.1.1.0.1.1.1.0.1, (u.high, (u.low, (f.1.1.1.0.1, (f.1.1.1.1.1.0.1, (tt, (tt, tt))))))))))))
 
 -- what stands behind a packet
 joined : (ss ts : List Stretch) → AllFit ss → AllFit ts → AllFit (ss ++ ts)

@@ -4,7 +4,7 @@ use lib.{IntN.ℤ, Ieee.Float, Ieee.binary64, Ieee.to_bits, ListN.replicate}
 use Rattle.octets.specs.Bytes.{big_bytes, little_bytes, put_at, mark_byte}
 use Rattle.octets.specs.Signed.{bits_of}
 use Rattle.field.specs.declared.Position.{Position}
-use Rattle.message.specs.declared.{MaybeVersion.MaybeVersion, MaybeMark.MaybeMark}
+use Rattle.message.specs.declared.{Maybe.Maybe, Version.Version}
 use Rattle.record.specs.declared.{Sixteen.Sixteen, Con.Con, ConRsp.ConRsp, StatusRsp.StatusRsp, Packet.Packet, Det.Det, AttPrp.AttPrp, UlData.UlData}
 use Rattle.record.specs.declared.{DlDataQue.DlDataQue, Body.Body, Message.Message}
 use Rattle.record.specs.Record.{command_in}
@@ -38,9 +38,9 @@ sixteen_lies p x = Stretch.high 8 p x.high ∷ (Stretch.high 8 (p + 8) x.low ∷
 abbrev pub position_lies : ℕ → Position → List Stretch
 position_lies p x = Stretch.real p x.latitude ∷ (Stretch.real (p + 8) x.longitude ∷ (Stretch.real (p + 16) x.altitude ∷ []))
 
-abbrev pub version_lies : ℕ → MaybeVersion → List Stretch
+abbrev pub version_lies : ℕ → Maybe Version → List Stretch
 version_lies p v =
-    Stretch.number 2 p v.major ∷ (Stretch.number 2 (p + 2) v.minor ∷ (Stretch.number 2 (p + 4) v.patch ∷ (Stretch.flag (p + 6) v.here ∷ [])))
+    Stretch.number 2 p v.value.major ∷ (Stretch.number 2 (p + 2) v.value.minor ∷ (Stretch.number 2 (p + 4) v.value.patch ∷ (Stretch.flag (p + 6) v.here ∷ [])))
 
 -- the fields of each command, in the struct's order
 unfoldable pub con_lies : Con → List Stretch
@@ -90,12 +90,12 @@ packet_lies p =
     Stretch.number 8 32 p.rx_duration.value ∷
     Stretch.real 40 p.signal.snr ∷
     Stretch.real 48 p.signal.rssi ∷
-    Stretch.real 56 p.signal.eq_snr ∷
+    Stretch.real 56 p.signal.eq_snr.value ∷
     sixteen_lies 64 p.profile
     ++ (Stretch.number 4 80 p.packet_cnt ∷
     Stretch.number 1 84 p.profile_len ∷
     Stretch.flag 85 p.rx_duration.here ∷
-    Stretch.flag 86 p.signal.has_eq_snr ∷
+    Stretch.flag 86 p.signal.eq_snr.here ∷
     [])
 
 unfoldable pub det_lies : Det → List Stretch
@@ -125,7 +125,7 @@ ul_data_lies x =
     [])
 
 -- a mark that may be absent: whether it is there, and the mark
-abbrev pub maybe_lies : ℕ → MaybeMark → List Stretch → List Stretch
+abbrev pub maybe_lies : ℕ → Maybe Bool → List Stretch → List Stretch
 maybe_lies p w rest = Stretch.flag p w.here ∷ (Stretch.flag (p + 1) w.value ∷ rest)
 
 -- dlDataQue; its counters, lengths and data stand in the lent bytes

@@ -4,7 +4,7 @@ use lib.{Dec.eqb, Dec.ltb, IntN.ℤ, Ieee.Float, Ieee.binary64, Ieee.of_bits, Li
 use Rattle.octets.specs.{Choice.either, Number.little_at, Number.big_at, Number.if_there, Signed.signed_of}
 use Rattle.field.specs.declared.Position.{Position}
 use Rattle.names.specs.Names.{if_downlink}
-use Rattle.message.specs.declared.{MaybeVersion.MaybeVersion, MaybeMark.MaybeMark, Signal.Signal}
+use Rattle.message.specs.declared.{Maybe.Maybe, Version.Version, Signal.Signal}
 use Rattle.record.specs.declared.{Sixteen.Sixteen, Con.Con, ConRsp.ConRsp, StatusRsp.StatusRsp, Packet.Packet, Det.Det, AttPrp.AttPrp, UlData.UlData}
 use Rattle.record.specs.declared.{DlDataQue.DlDataQue, Body.Body, Message.Message}
 use Rattle.record.specs.Record.{body_in}
@@ -48,8 +48,8 @@ module _ (d : List ℕ) where
   abbrev pub position_at : ℕ → Position
   position_at p = record { latitude = real_at p; longitude = real_at (p + 8); altitude = real_at (p + 16) }
 
-  abbrev pub version_at : ℕ → MaybeVersion
-  version_at p = record { here = flag_at (p + 6); major = number_at 2 p; minor = number_at 2 (p + 2); patch = number_at 2 (p + 4) }
+  abbrev pub version_at : ℕ → Maybe Version
+  version_at p = record { here = flag_at (p + 6); value = record { major = number_at 2 p; minor = number_at 2 (p + 2); patch = number_at 2 (p + 4) } }
 
   unfoldable pub con_at : Con
   con_at = record {
@@ -79,7 +79,7 @@ module _ (d : List ℕ) where
   }
 
   abbrev pub signal_at : Signal
-  signal_at = record { snr = real_at 40; rssi = real_at 48; eq_snr = real_at 56; has_eq_snr = flag_at 86 }
+  signal_at = record { snr = real_at 40; rssi = real_at 48; eq_snr = record { here = flag_at 86; value = real_at 56 } }
 
   unfoldable pub packet_at : Packet
   packet_at = record {
@@ -111,7 +111,7 @@ module _ (d : List ℕ) where
   unfoldable pub ul_data_at : UlData
   ul_data_at = record { packet = packet_at; user_len = number_at 1 88; format = number_at 1 89; dl_open = flag_at 90; response_exp = flag_at 91; dl_ack = flag_at 92 }
 
-  abbrev pub maybe_mark_at : ℕ → MaybeMark
+  abbrev pub maybe_mark_at : ℕ → Maybe Bool
   maybe_mark_at p = record { here = flag_at p; value = flag_at (p + 1) }
 
   unfoldable pub dl_data_que_at : DlDataQue

@@ -3,6 +3,7 @@ ghost use mathlib.Core.{Path.◌≡◌, List.[]};
 ghost use Rattle.std.specs.Prelude.{◌+◌, ◌≤◌, take};
 ghost use Rattle.layout.specs.Image.{Stretch, sixteen_lies, version_lies, con_lies, con_rsp_lies, status_rsp_lies, packet_lies, det_lies, att_prp_lies, ul_data_lies, maybe_lies, dl_data_que_lies, lay, laid};
 
+use message::{Maybe, Version};
 use record::{Con, StatusRsp};
 
 // A function for each width, so that the lines below name none: `put::<1>(d, 40, u64::from(x.entries))` would be no plainer than `put_small(d, 40, x.entries)`.
@@ -96,7 +97,7 @@ fn put_marks(d: &mut [u8], at: usize, x: bool, y: bool, z: bool)
 }
 
 // Whether a mark is there, and the mark.
-fn put_maybe(d: &mut [u8], at: usize, w: message::MaybeMark)
+fn put_maybe(d: &mut [u8], at: usize, w: Maybe<bool>)
     requires { at ≤ 102 }
     ensures { d.new ≡ laid (maybe_lies at w []) d.old }
 {
@@ -104,13 +105,13 @@ fn put_maybe(d: &mut [u8], at: usize, w: message::MaybeMark)
     put_mark(d, at + 1, w.value);
 }
 
-fn put_version(d: &mut [u8], at: usize, v: message::MaybeVersion)
+fn put_version(d: &mut [u8], at: usize, v: Maybe<Version>)
     requires { at ≤ 97 }
     ensures { d.new ≡ laid (version_lies at v) d.old }
 {
-    put_short(d, at, v.major);
-    put_short(d, at + 2, v.minor);
-    put_short(d, at + 4, v.patch);
+    put_short(d, at, v.value.major);
+    put_short(d, at + 2, v.value.minor);
+    put_short(d, at + 4, v.value.patch);
     put_mark(d, at + 6, v.here);
 }
 
@@ -184,12 +185,12 @@ fn put_packet(d: &mut [u8], p: record::Packet)
     let profile = p.profile;
     put_words(d, 16, p.ep_eui, p.rx_time);
     put_word(d, 32, p.rx_duration.value);
-    put_reals(d, 40, p.signal.snr, p.signal.rssi, p.signal.eq_snr);
+    put_reals(d, 40, p.signal.snr, p.signal.rssi, p.signal.eq_snr.value);
     put_sixteen(d, 64, profile);
     put_count(d, 80, p.packet_cnt);
     put_small(d, 84, p.profile_len);
     put_mark(d, 85, p.rx_duration.here);
-    put_mark(d, 86, p.signal.has_eq_snr);
+    put_mark(d, 86, p.signal.eq_snr.here);
 }
 
 pub fn put_det(d: &mut [u8], x: record::Det)

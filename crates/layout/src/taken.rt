@@ -4,7 +4,7 @@ ghost use Rattle.layout.specs.Taken.{places, marks_of, number_at, high_at, signe
 
 use crate::leaf::real_from;
 use field::Position;
-use message::{MaybeId, MaybeMark, MaybePosition, MaybeReal, MaybeVersion, MaybeWord, Signal};
+use message::{Maybe, Signal, Version};
 use names::numbers;
 use record::{AttPrp, Con, ConRsp, Det, DlDataQue, Packet, Sixteen, StatusRsp, UlData};
 
@@ -83,15 +83,17 @@ fn position(d: &[u8]) -> Position
     }
 }
 
-fn version(d: &[u8], at: usize) -> MaybeVersion
+fn version(d: &[u8], at: usize) -> Maybe<Version>
     requires { at ≤ 97 }
     ensures { result ≡ version_at d.now at }
 {
-    MaybeVersion {
+    Maybe {
         here: is_set(d, at + 6),
-        major: short(d, at),
-        minor: short(d, at + 2),
-        patch: short(d, at + 4),
+        value: Version {
+            major: short(d, at),
+            minor: short(d, at + 2),
+            patch: short(d, at + 4),
+        },
     }
 }
 
@@ -102,16 +104,16 @@ pub fn con_in(d: &[u8]) -> Con
         version: version(d, 80),
         bs_eui: word(d, 16),
         bidi: is_set(d, 87),
-        geo_location: MaybePosition {
+        geo_location: Maybe {
             here: is_set(d, 88),
             value: position(d),
         },
         sn_bs_uuid: sixteen(d, 64),
-        sn_bs_op_id: MaybeId {
+        sn_bs_op_id: Maybe {
             here: is_set(d, 89),
             value: id(d, 24),
         },
-        sn_sc_op_id: MaybeId {
+        sn_sc_op_id: Maybe {
             here: is_set(d, 90),
             value: id(d, 32),
         },
@@ -137,23 +139,23 @@ pub fn status_rsp_in(d: &[u8]) -> StatusRsp
         message_len: byte(d, 92),
         time: word(d, 16),
         duty_cycle: figure(d, 32),
-        geo_location: MaybePosition {
+        geo_location: Maybe {
             here: is_set(d, 93),
             value: position(d),
         },
-        uptime: MaybeWord {
+        uptime: Maybe {
             here: is_set(d, 94),
             value: word(d, 24),
         },
-        temp: MaybeReal {
+        temp: Maybe {
             here: is_set(d, 95),
             value: figure(d, 64),
         },
-        cpu_load: MaybeReal {
+        cpu_load: Maybe {
             here: is_set(d, 96),
             value: figure(d, 72),
         },
-        mem_load: MaybeReal {
+        mem_load: Maybe {
             here: is_set(d, 97),
             value: figure(d, 80),
         },
@@ -166,8 +168,10 @@ fn signal_in(d: &[u8]) -> Signal
     Signal {
         snr: figure(d, 40),
         rssi: figure(d, 48),
-        eq_snr: figure(d, 56),
-        has_eq_snr: is_set(d, 86),
+        eq_snr: Maybe {
+            here: is_set(d, 86),
+            value: figure(d, 56),
+        },
     }
 }
 
@@ -177,7 +181,7 @@ fn packet_in(d: &[u8]) -> Packet
     Packet {
         ep_eui: word(d, 16),
         rx_time: word(d, 24),
-        rx_duration: MaybeWord {
+        rx_duration: Maybe {
             here: is_set(d, 85),
             value: word(d, 32),
         },
@@ -226,11 +230,11 @@ pub fn ul_data_in(d: &[u8]) -> UlData
     }
 }
 
-fn maybe_mark(d: &[u8], at: usize) -> MaybeMark
+fn maybe_mark(d: &[u8], at: usize) -> Maybe<bool>
     requires { at ≤ 102 }
     ensures { result ≡ maybe_mark_at d.now at }
 {
-    MaybeMark {
+    Maybe {
         here: is_set(d, at),
         value: is_set(d, at + 1),
     }

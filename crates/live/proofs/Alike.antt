@@ -92,7 +92,7 @@ module _ (s : Session) where
   waiting z h g none q = (refl, λ k. k)
   waiting z h g (some x) q =
       same_test (same_id z (pos 0)) _ _ _ _
-      (same_test (eqb x.version.major 1 && eqb x.version.minor 0) _ _ _ _
+      (same_test (eqb x.version.value.major 1 && eqb x.version.value.minor 0) _ _ _ _
       (rw (sym (resumes_plain s x q)) (same_test (resumes s x) _ _ _ _ (refl, λ k. k) (refl, λ k. refl))) (refl, λ k. k)) (refl, λ k. k)
 
   connecting : (c : ℕ) (z : ℤ) → Leads (in_connecting s c z) (in_connecting (plain s) c z)

@@ -3,8 +3,9 @@ use Rattle.std.specs.Prelude.{ℕ}
 use mathlib.Core.{Bool.Bool, List.List}
 use lib.{IntN.ℤ, Ieee.Float}
 use Rattle.field.specs.Kind.{Value}
-use Rattle.field.specs.Cell.{Cell, value_in, here, word_of, views_of, figure_of, position_of}
-use Rattle.message.specs.declared.{MaybeWord.MaybeWord, MaybeId.MaybeId, MaybeReal.MaybeReal, MaybeMark.MaybeMark, MaybePosition.MaybePosition}
+use Rattle.field.specs.Cell.{Cell, value_in, here, word_of, number_in, views_of, figure_of, position_of}
+use Rattle.field.specs.declared.Position.{Position}
+use Rattle.message.specs.declared.{Maybe.Maybe, Version.Version}
 
 abbrev pub word_in : Cell → ℕ
 word_in c = word_of (value_in c)
@@ -33,17 +34,12 @@ counts_of v = (views_of v).counts
 abbrev pub strings_of : Value → List (List ℕ)
 strings_of v = (views_of v).strings
 
-abbrev pub maybe_word : Cell → MaybeWord
-maybe_word c = record { here = here c; value = word_in c }
+abbrev pub position_in : Cell → Position
+position_in c = position_of (value_in c)
 
-abbrev pub maybe_id : Cell → MaybeId
-maybe_id c = record { here = here c; value = id_in c }
+abbrev pub version_in : Cell → Version
+version_in c = record { major = number_in 0 c; minor = number_in 1 c; patch = number_in 2 c }
 
-abbrev pub maybe_real : Cell → MaybeReal
-maybe_real c = record { here = here c; value = figure_in c }
-
-abbrev pub maybe_mark : Cell → MaybeMark
-maybe_mark c = record { here = here c; value = mark_in c }
-
-abbrev pub maybe_position : Cell → MaybePosition
-maybe_position c = record { here = here c; value = position_of (value_in c) }
+-- a field that may be absent
+abbrev pub maybe_of : {A : Type 0} → (Cell → A) → Cell → Maybe A
+maybe_of f c = record { here = here c; value = f c }

@@ -3,40 +3,17 @@
 
 pub mod listed;
 
-// A field that may be absent: zero where it is.
+// A field that may be absent: its value is zero then. No Option: a host's record may have an absent field with another value, which document 01
+// refuses with 15 (`fault_in` of record's specs/Fits: the field's part is not clean).
 #[derive(Clone, Copy)]
-pub struct MaybeWord {
+pub struct Maybe<T> {
     pub here: bool,
-    pub value: u64,
+    pub value: T,
 }
 
+// A version's three numbers.
 #[derive(Clone, Copy)]
-pub struct MaybeId {
-    pub here: bool,
-    pub value: i64,
-}
-
-#[derive(Clone, Copy)]
-pub struct MaybeReal {
-    pub here: bool,
-    pub value: f64,
-}
-
-#[derive(Clone, Copy)]
-pub struct MaybeMark {
-    pub here: bool,
-    pub value: bool,
-}
-
-#[derive(Clone, Copy)]
-pub struct MaybePosition {
-    pub here: bool,
-    pub value: field::Position,
-}
-
-#[derive(Clone, Copy)]
-pub struct MaybeVersion {
-    pub here: bool,
+pub struct Version {
     pub major: u16,
     pub minor: u16,
     pub patch: u16,
@@ -47,6 +24,5 @@ pub struct MaybeVersion {
 pub struct Signal {
     pub snr: f64,
     pub rssi: f64,
-    pub eq_snr: f64,
-    pub has_eq_snr: bool,
+    pub eq_snr: Maybe<f64>,
 }

@@ -295,7 +295,7 @@ uplink_heard rssi format = record {
       rx_time = 0x6500_0000;
       rx_duration = record { here = false; value = 0 };
       packet_cnt = 5;
-      signal = record { snr = fin false 11 (pos 0); rssi = rssi; eq_snr = zero64; has_eq_snr = false };
+      signal = record { snr = fin false 11 (pos 0); rssi = rssi; eq_snr = record { here = false; value = zero64 } };
       profile_len = 0;
       profile = record { high = 0; low = 0 };
     };

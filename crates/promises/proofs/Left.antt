@@ -82,7 +82,7 @@ module _ (s : Session) (m : Message) (h : Host) where
   waiting =
       by_con Other m.body _ _
       (λ x e. by_test Other (same_id m.op_id (pos 0)) _ _
-      (by_test Other (eqb x.version.major 1 && eqb x.version.minor 0) _ _ (by_test Other (resumes s x) _ _ tt tt) tt) tt) tt
+      (by_test Other (eqb x.version.value.major 1 && eqb x.version.value.minor 0) _ _ (by_test Other (resumes s x) _ _ tt tt) tt) tt) tt
 
   connecting : (c : ℕ) (z : ℤ) → Other (in_connecting s c z)
   unfolding in_connecting

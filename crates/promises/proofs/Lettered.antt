@@ -12,8 +12,9 @@ use Rattle.octets.specs.{Choice.either, Bytes.IsBytes, Pieces.strung}
 use Rattle.octets.proofs.Widths.{big_below}
 use Rattle.element.specs.{Lead.Class, Lead.class_of, Tree.Tree, Tree.Tree.leaf, Tree.Tree.array, Tree.Tree.map, Tree.Pairs, Tree.Pairs.end, Tree.Pairs.pair, Tree.bytes_of, Tree.bytes_of_pairs}
 use Rattle.element.specs.Meaning.{Element, Elements, Elements.no_more, Elements.more, Fields, Fields.no_field, Fields.field, leaf_of, meaning_of, meaning_of_pairs}
-use Rattle.number.specs.declared.Number.{Number, TheVariants.Signed, TheVariants.Unsigned, TheVariants.Real, TheVariants.Not}
-use Rattle.number.specs.Number.{number_of}
+use Rattle.std.specs.Prelude.{Some, None}
+use Rattle.number.specs.declared.Number.TheVariants.{Signed, Unsigned, Real}
+use Rattle.number.specs.Number.{Found, number_of}
 use Rattle.names.specs.Names.{bytes, same_bytes, command_of}
 use Rattle.field.specs.Kind.{Kind, Value}
 use Rattle.field.specs.Judge.{when, on_some, whole_in, real_in, truth_of, text_of, parts_of, is_table, in_range, naturals_in, octet_in, octets_in, reals_in, pieces_in, three_of, judge}
@@ -70,15 +71,15 @@ where_when : (b : Bool) (v : Value) → Lettered v → Where Lettered (when b v)
 where_when true v f = f
 where_when false v f = tt
 
-octet_small : (x : Number) → Where (λ (n : ℕ). n < 256) (octet_in x)
-octet_small (Signed z) = tt
-octet_small (Unsigned n) = go (leb n 255) (λ e. omega (arith, leb-true n 255 e))
+octet_small : (x : Found) → Where (λ (n : ℕ). n < 256) (octet_in x)
+octet_small (Some (Signed z)) = tt
+octet_small (Some (Unsigned n)) = go (leb n 255) (λ e. omega (arith, leb-true n 255 e))
   where
     go : (b : Bool) → (b ≡ true → n < 256) → Where (λ (n : ℕ). n < 256) (either b (λ _. some n) (λ _. none))
     go true f = f (λ _. true)
     go false f = tt
-octet_small (Real x) = tt
-octet_small Not = tt
+octet_small (Some (Real x)) = tt
+octet_small None = tt
 
 octets_are : (es : Elements) → Where IsBytes (octets_in es)
 unfolding naturals_in
@@ -111,11 +112,11 @@ version_lettered : (d : List ℕ) → Where Lettered (version_of d)
 unfolding version_of
 version_lettered d = parts_lettered (cut_at_dots d)
 
-whole_lettered : (lo hi : ℕ) (x : Number) → Where Lettered (whole_in lo hi x)
-whole_lettered lo hi (Signed z) = where_when (in_range lo hi z) (Value.number z) no_bytes
-whole_lettered lo hi (Unsigned n) = where_when (leb n hi) (Value.number (pos n)) no_bytes
-whole_lettered lo hi (Real x) = tt
-whole_lettered lo hi Not = tt
+whole_lettered : (lo hi : ℕ) (x : Found) → Where Lettered (whole_in lo hi x)
+whole_lettered lo hi (Some (Signed z)) = where_when (in_range lo hi z) (Value.number z) no_bytes
+whole_lettered lo hi (Some (Unsigned n)) = where_when (leb n hi) (Value.number (pos n)) no_bytes
+whole_lettered lo hi (Some (Real x)) = tt
+whole_lettered lo hi None = tt
 
 judge_lettered : (k : Kind) (e : Element) → Plain e → Where Lettered (judge k e)
 unfolding judge

@@ -122,7 +122,7 @@ abbrev pub con_there : Message
 con_there = record {
   op_id = pos 0;
   body = Body.Con (record {
-    version = record { here = true; major = 1; minor = 0; patch = 0 };
+    version = record { here = true; value = record { major = 1; minor = 0; patch = 0 } };
     bs_eui = 5;
     bidi = false;
     geo_location = record { here = true; value = located (fin false 3 (pos 4)) (fin false 11 (pos 0)) (fin true 1 (pos 1)) };

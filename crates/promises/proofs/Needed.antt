@@ -1,5 +1,5 @@
 -- Each condition of `Changed` is needed: a change that breaks one of them alone changes the reading. All in one table, by computation. Assumes nothing.
-use mathlib.Core.{Path.◌≡◌, Path.refl, Bool.true, Bool.false, List.List, List.[], List.◌∷◌}
+use mathlib.Core.{Path.◌≡◌, Path.refl, Bool.Bool, Bool.true, Bool.false, List.List, List.[], List.◌∷◌}
 use Prim.Native.Nat.{ℕ}
 use lib.{IntN.pos, IntN.negsuc}
 use lib.Ieee.{Float, fin, of_bits, of_int, fits}
@@ -10,7 +10,7 @@ use Rattle.names.specs.Names.{bytes, commands, place_in, name_at, command_of}
 use Rattle.field.specs.Judge.{naturals_in, pieces_in, judge}
 use Rattle.message.specs.Fields.{lists, list_in}
 use Rattle.message.specs.Reading.{said_from, cells_of, gravest, look_in, place_among}
-use Rattle.message.specs.declared.MaybeMark.{MaybeMark}
+use Rattle.message.specs.declared.Maybe.{Maybe}
 use Rattle.record.specs.declared.{Body.Body, Message.Message}
 use Rattle.record.specs.Record.{body_in, message_of, lent_keys, data_of}
 use Rattle.record.specs.Reading.{Reading, reading_as, reading_of}
@@ -54,7 +54,7 @@ queue rest = before
 abbrev pub with_prio : Tree → Pairs
 with_prio prio = queue (pair (text "prio") prio end)
 
-abbrev not_said : MaybeMark
+abbrev not_said : Maybe Bool
 not_said = record { here = false; value = false }
 
 abbrev pub downlink_of : Float → Message

@@ -14,7 +14,7 @@ use Rattle.number.specs.Number.{finite}
 use Rattle.names.specs.Names.{bytes}
 use Rattle.field.specs.{Kind.Kind, Kind.Value, Kind.profile_text, Judge.in_range}
 use Rattle.field.specs.declared.Position.{Position}
-use Rattle.message.specs.declared.{MaybeWord.MaybeWord, MaybeId.MaybeId, MaybePosition.MaybePosition, MaybeVersion.MaybeVersion}
+use Rattle.message.specs.declared.{Maybe.Maybe, Version.Version}
 use Rattle.message.specs.Fields.{Field, lists, list_in, fields_of}
 use Rattle.saying.specs.Says.{part_in, is_zero, no_bits, said_if, word_if, id_if, real_if, position_if, position_value, no_position, version_if, release_value, no_release, string_if, are_nulls, unless_zero}
 use Rattle.saying.specs.Fits.{is_real, is_sized, within, said_fits, field_fits}
@@ -42,7 +42,7 @@ none_holds : (x : Float) → T (no_bits x) → holds binary64 x ≡ true
 none_holds x t = sym (is_true (holds binary64 x) (both_right (eqb (to_bits binary64 x) 0) (holds binary64 x) t))
 
 module _ (must : Bool) (u : List ℕ) where
-  word_if_lem : (hi : ℕ) (w : MaybeWord) → T (field_fits (of must u (Kind.wholes 0 hi)) (word_if w)) → w.value ≤ hi
+  word_if_lem : (hi : ℕ) (w : Maybe ℕ) → T (field_fits (of must u (Kind.wholes 0 hi)) (word_if w)) → w.value ≤ hi
   unfolding within
   word_if_lem hi w t = go w.here t
     where
@@ -54,7 +54,7 @@ module _ (must : Bool) (u : List ℕ) where
   zero_small (pos n) t = omega (arith, eqb→eq n 0 t)
   zero_small (negsuc k) t = absurd t
 
-  id_if_lem : (lo hi : ℕ) → lo ≤ 2 ^ 63 → hi < 2 ^ 63 → (w : MaybeId) → T (field_fits (of must u (Kind.wholes lo hi)) (id_if w)) → mag w.value < 2 ^ 63
+  id_if_lem : (lo hi : ℕ) → lo ≤ 2 ^ 63 → hi < 2 ^ 63 → (w : Maybe ℤ) → T (field_fits (of must u (Kind.wholes lo hi)) (id_if w)) → mag w.value < 2 ^ 63
   unfolding within
   id_if_lem lo hi l h w t = go w.here t
     where
@@ -62,15 +62,18 @@ module _ (must : Bool) (u : List ℕ) where
       go true t = signed_small lo hi (2 ^ 63) w.value l h t
       go false t = zero_small w.value (both_left (is_zero w.value) (not must) t)
 
-  real_if_lem : (here : Bool) (x : Float) → T (field_fits (of must u Kind.reals) (real_if here x)) → holds binary64 x ≡ true
+  real_if_lem : (w : Maybe Float) → T (field_fits (of must u Kind.reals) (real_if w)) → holds binary64 w.value ≡ true
   unfolding within
-  real_if_lem true x t = real_holds x t
-  real_if_lem false x t = none_holds x (both_left (no_bits x) (not must) t)
+  real_if_lem w t = go w.here t
+    where
+      go : (b : Bool) → T (field_fits (of must u Kind.reals) (said_if b (Value.figure w.value) (no_bits w.value))) → holds binary64 w.value ≡ true
+      go true t = real_holds w.value t
+      go false t = none_holds w.value (both_left (no_bits w.value) (not must) t)
 
   abbrev AllHold : Position → Type 0
   AllHold p = (holds binary64 p.latitude ≡ true) × ((holds binary64 p.longitude ≡ true) × (holds binary64 p.altitude ≡ true))
 
-  place_if : (w : MaybePosition) → T (field_fits (of must u Kind.positions) (position_if w)) → AllHold w.value
+  place_if : (w : Maybe Position) → T (field_fits (of must u Kind.positions) (position_if w)) → AllHold w.value
   unfolding within
   place_if w t = go w.here t
     where
@@ -90,30 +93,30 @@ module _ (must : Bool) (u : List ℕ) where
             (none_holds p.longitude (both_left (no_bits p.longitude) (no_bits p.altitude) r), none_holds p.altitude (both_right (no_bits p.longitude) (no_bits p.altitude) r)),
           )
 
-  abbrev AllLess : MaybeVersion → Type 0
-  AllLess w = (w.major < 256 ^ 2) × ((w.minor < 256 ^ 2) × (w.patch < 256 ^ 2))
+  abbrev AllLess : Version → Type 0
+  AllLess v = (v.major < 256 ^ 2) × ((v.minor < 256 ^ 2) × (v.patch < 256 ^ 2))
 
-  version_if_lem : (w : MaybeVersion) → T (field_fits (of must u Kind.versions) (version_if w)) → AllLess w
+  version_if_lem : (w : Maybe Version) → T (field_fits (of must u Kind.versions) (version_if w)) → AllLess w.value
   unfolding within
   version_if_lem w t = go w.here t
     where
       a : ℕ
-      a = w.major
+      a = w.value.major
 
       b : ℕ
-      b = w.minor
+      b = w.value.minor
 
       c : ℕ
-      c = w.patch
+      c = w.value.patch
 
-      go : (x : Bool) → T (field_fits (of must u Kind.versions) (said_if x (release_value w) (no_release w))) → AllLess w
+      go : (x : Bool) → T (field_fits (of must u Kind.versions) (said_if x (release_value w.value) (no_release w.value))) → AllLess w.value
       go true t =
           let r = both_right (leb a 65535) (leb b 65535 && leb c 65535) t in (
             omega (arith, leb→le a 65535 (both_left (leb a 65535) (leb b 65535 && leb c 65535) t)),
             (omega (arith, leb→le b 65535 (both_left (leb b 65535) (leb c 65535) r)), omega (arith, leb→le c 65535 (both_right (leb b 65535) (leb c 65535) r))),
           )
       go false t =
-          let s = both_left (no_release w) (not must) t in
+          let s = both_left (no_release w.value) (not must) t in
           let r = both_right (eqb a 0) (eqb b 0 && eqb c 0) s in (
             omega (arith, eqb→eq a 0 (both_left (eqb a 0) (eqb b 0 && eqb c 0) s)),
             (omega (arith, eqb→eq b 0 (both_left (eqb b 0) (eqb c 0) r)), omega (arith, eqb→eq c 0 (both_right (eqb b 0) (eqb c 0) r))),
@@ -184,9 +187,9 @@ module _ (z : ℤ) (d : List ℕ) where
       let duty = real_holds x.duty_cycle all.1.1.1.1.1.0 in
       let g = place_if false (bytes "geoLocation") x.geo_location all.1.1.1.1.1.1.0 in
       let up : x.uptime.value < 256 ^ 8 = omega (arith, word_if_lem false (bytes "uptime") 0xFFFFFFFFFFFFFFFF x.uptime all.1.1.1.1.1.1.1.0) in
-      let temp = real_if_lem false (bytes "temp") x.temp.here x.temp.value all.1.1.1.1.1.1.1.1.0 in
-      let cpu = real_if_lem false (bytes "cpuLoad") x.cpu_load.here x.cpu_load.value all.1.1.1.1.1.1.1.1.1.0 in
-      let mem = real_if_lem false (bytes "memLoad") x.mem_load.here x.mem_load.value all.1.1.1.1.1.1.1.1.1.1.0 in
+      let temp = real_if_lem false (bytes "temp") x.temp all.1.1.1.1.1.1.1.1.0 in
+      let cpu = real_if_lem false (bytes "cpuLoad") x.cpu_load all.1.1.1.1.1.1.1.1.1.0 in
+      let mem = real_if_lem false (bytes "memLoad") x.mem_load all.1.1.1.1.1.1.1.1.1.1.0 in
       (time, (up, (duty, (g.0, (g.1.0, (g.1.1, (temp, (cpu, (mem, (code, (len, (tt, (tt, (tt, (tt, (tt, tt))))))))))))))))
 
   -- the parts of a packet, with what comes behind them
@@ -224,7 +227,7 @@ module _ (z : ℤ) (d : List ℕ) where
       let p = x.packet in
       packet_lies_lem p all.1.1.0 all.1.1.1.0 (word_if_lem false (bytes "rxDuration") 0xFFFFFFFFFFFFFFFF p.rx_duration all.1.1.1.1.0)
       all.1.1.1.1.1.0 all.1.1.1.1.1.1.0 all.1.1.1.1.1.1.1.0
-      (real_if_lem false (bytes "eqSnr") p.signal.has_eq_snr p.signal.eq_snr all.1.1.1.1.1.1.1.1.0)
+      (real_if_lem false (bytes "eqSnr") p.signal.eq_snr all.1.1.1.1.1.1.1.1.0)
       (string_if_lem false (bytes "profile") profile_text p.profile_len (sixteen_bytes p.profile) all.1.1.1.1.1.1.1.1.1.0)
       wide (Stretch.high 4 88 x.sign ∷ []) (sign, tt)
 
@@ -238,7 +241,7 @@ module _ (z : ℤ) (d : List ℕ) where
       let format : x.format < 256 ^ 1 = omega (arith, unless_zero_lem false (bytes "format") 0xFF x.format l.1.0) in
       packet_lies_lem p all.1.1.0 all.1.1.1.0 (word_if_lem false (bytes "rxDuration") 0xFFFFFFFFFFFFFFFF p.rx_duration all.1.1.1.1.0)
       all.1.1.1.1.1.0 all.1.1.1.1.1.1.0 all.1.1.1.1.1.1.1.0
-      (real_if_lem false (bytes "eqSnr") p.signal.has_eq_snr p.signal.eq_snr all.1.1.1.1.1.1.1.1.0)
+      (real_if_lem false (bytes "eqSnr") p.signal.eq_snr all.1.1.1.1.1.1.1.1.0)
       (string_if_lem false (bytes "profile") profile_text p.profile_len (sixteen_bytes p.profile) all.1.1.1.1.1.1.1.1.1.0)
       wide
       (Stretch.number 1 88 x.user_len ∷ Stretch.number 1 89 x.format ∷ Stretch.flag 90 x.dl_open ∷ Stretch.flag 91 x.response_exp ∷ Stretch.flag 92 x.dl_ack ∷ [])

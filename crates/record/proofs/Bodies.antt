@@ -38,7 +38,6 @@ module _ (look : List ℕ → Cell) where
       → ((k : List ℕ) → Shown (kind_by (headed (received fs)) k) (part_in (says "command" c ∷ (says "opId" o ∷ packet_sayings p rs)) k) (look k)) → packet_of look ≡ p
   unfolding part_in
   packet_shown fs c o p rs w shown =
-      let eq-snr = maybe_real_back p.signal.has_eq_snr p.signal.eq_snr (shown (bytes "eqSnr")) in
       let profile = maybe_string_back 16 p.profile_len (sixteen_bytes p.profile) (Kind.texts 1 16) refl (shown (bytes "profile")) in
       λ i. record {
         ep_eui = word_back (shown (bytes "epEui")) i;
@@ -48,8 +47,7 @@ module _ (look : List ℕ → Cell) where
         signal = record {
           snr = real_back (shown (bytes "snr")) i;
           rssi = real_back (shown (bytes "rssi")) i;
-          eq_snr = eq-snr.1 i;
-          has_eq_snr = eq-snr.0 i;
+          eq_snr = maybe_real_back p.signal.eq_snr (shown (bytes "eqSnr")) i;
         };
         profile_len = profile.1 i;
         profile = (sym (sixteen_padded (look (bytes "profile"))) ∙ ap sixteen_of profile.0 ∙ sixteen_back p.profile w) i;
@@ -106,9 +104,6 @@ module _ (look : List ℕ → Cell) where
     })
     body_back (Body.StatusRsp x) w shown =
         let message = lent_back x.message_len d (Kind.texts 0 64) refl (shown (bytes "message")) in
-        let temp = maybe_real_back x.temp.here x.temp.value (shown (bytes "temp")) in
-        let cpu = maybe_real_back x.cpu_load.here x.cpu_load.value (shown (bytes "cpuLoad")) in
-        let mem = maybe_real_back x.mem_load.here x.mem_load.value (shown (bytes "memLoad")) in
         λ i. Body.StatusRsp (record {
           code = id_back (shown (bytes "code")) i;
           message_len = message.1 i;
@@ -116,9 +111,9 @@ module _ (look : List ℕ → Cell) where
           duty_cycle = real_back (shown (bytes "dutyCycle")) i;
           geo_location = maybe_place_back x.geo_location (shown (bytes "geoLocation")) i;
           uptime = maybe_word_back x.uptime (shown (bytes "uptime")) i;
-          temp = record { here = temp.0 i; value = temp.1 i };
-          cpu_load = record { here = cpu.0 i; value = cpu.1 i };
-          mem_load = record { here = mem.0 i; value = mem.1 i };
+          temp = maybe_real_back x.temp (shown (bytes "temp")) i;
+          cpu_load = maybe_real_back x.cpu_load (shown (bytes "cpuLoad")) i;
+          mem_load = maybe_real_back x.mem_load (shown (bytes "memLoad")) i;
         })
     body_back (Body.Det x) w shown = λ i. Body.Det (record {
       packet = packet_back _ (Body.Det x) x.packet _ refl refl w.0 shown i;

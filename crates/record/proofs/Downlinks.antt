@@ -20,7 +20,7 @@ use Rattle.field.specs.{Kind.Kind, Kind.Value, Cell.Cell, Cell.here}
 use Rattle.message.specs.Record.{word_in, mark_in}
 use Rattle.message.specs.Reading.{is_valid, counts_agree, is_miscounted}
 use Rattle.saying.specs.{Says.counts_if, Says.strings, Fits.are_pieces, Fits.within}
-use Rattle.saying.proofs.{Fair.Fair, Made.is_made, Shown.Shown, Parts.always_back, Parts.Maybe, Parts.maybe_back, Parts.Maybe.there, Parts.Maybe.absent}
+use Rattle.saying.proofs.{Fair.Fair, Made.is_made, Shown.Shown, Parts.always_back, Parts.Stands, Parts.maybe_back, Parts.Stands.there, Parts.Stands.absent}
 use Rattle.record.specs.declared.DlDataQue.{DlDataQue}
 use Rattle.record.specs.{Record.counts_in, Record.strings_in, Says.tested, Says.is_counted}
 use Rattle.record.proofs.Parts.{untested, passed}
@@ -60,7 +60,7 @@ pub record Counted (h : Bool) (n : ℕ) (d : List ℕ) (c : Cell) : Type 0 where
 pub counters_shown : {many : ℕ} (b h : Bool) (n : ℕ) (d : List ℕ) {c : Cell} → Shown (Kind.counters many) (tested b (counts_if h (counters_lent n d))) c → Counted h n d c
 counters_shown {many} b h n d {c} s = go (maybe_back (Kind.counters many) (Value.counts (counters_lent n d)) true h c (untested b (counts_if h (counters_lent n d)) s))
   where
-    go : {h : Bool} {c : Cell} → Maybe (Kind.counters many) (Value.counts (counters_lent n d)) true h c → Counted h n d c
+    go : {h : Bool} {c : Cell} → Stands (Kind.counters many) (Value.counts (counters_lent n d)) true h c → Counted h n d c
     go there = record { is = refl; count = counters_length d n 0; given = refl; valid = refl }
     go (absent t) = record { is = refl; count = refl; given = refl; valid = refl }
 

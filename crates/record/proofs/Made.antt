@@ -11,13 +11,13 @@ use Rattle.octets.specs.{Number.big_at, Bytes.big_bytes}
 use Rattle.octets.proofs.Ranges.{is_true, true_is, are_bytes_lem}
 use Rattle.names.proofs.Same.{same_refl}
 use Rattle.field.specs.{Kind.Kind, Kind.Value, Cell.Cell, Cell.here}
-use Rattle.message.specs.Record.{word_in}
+use Rattle.message.specs.Record.{word_in, version_in, maybe_of}
 use Rattle.saying.specs.Says.{Part, are_nulls, tidy, string_if}
 use Rattle.saying.specs.Says as Says
 use Rattle.saying.specs.Fits.{is_sized, within}
 use Rattle.saying.proofs.{Fair.Fair, Sorts.sized_least, Sorts.sized_most, Made.is_made}
 use Rattle.record.specs.declared.Sixteen.{Sixteen}
-use Rattle.record.specs.Record.{bytes_in, four_in, sixteen_in, maybe_version}
+use Rattle.record.specs.Record.{bytes_in, four_in, sixteen_in}
 use Rattle.record.specs.Says.{sixteen_bytes, sixteen, four, tested, lent}
 use Rattle.record.proofs.Packed.{sixteen_behind, sixteen_again, four_again}
 
@@ -39,7 +39,7 @@ unfolding sixteen_bytes big_bytes
 sixteen_long x = refl
 
 module _ (must : Bool) where
-  pub version_made : {c : Cell} → Fair Kind.versions c → T (is_made must Kind.versions c (Says.version_if (maybe_version c)))
+  pub version_made : {c : Cell} → Fair Kind.versions c → T (is_made must Kind.versions c (Says.version_if (maybe_of version_in c)))
   unfolding within
   version_made (Fair.left k) = tt
   version_made (Fair.release a b d p q r) = and_i (leb a 65535) (leb b 65535 && leb d 65535) p (and_i (leb b 65535) (leb d 65535) q r)

@@ -8,13 +8,13 @@ use lib.Dec.{T, eqb, leb, eqb→eq, leb→le}
 use lib.{ListN.length, ListN.take, Seq.length-take-le}
 use Rattle.octets.proofs.{Ranges.both_left, Ranges.both_right, Truth.none_some}
 use Rattle.field.specs.{Kind.Kind, Kind.Value, Cell.Cell}
-use Rattle.message.specs.Record.{word_in}
-use Rattle.message.specs.declared.MaybeVersion.{MaybeVersion}
+use Rattle.message.specs.Record.{word_in, version_in, maybe_of}
+use Rattle.message.specs.declared.{Maybe.Maybe, Version.Version}
 use Rattle.saying.specs.Says.{Part, string, release_value, no_release}
 use Rattle.saying.specs.Says as Says
 use Rattle.saying.proofs.{Shown.Shown, Shown.kept_by, Shown.Shown.spoken, Shown.Shown.silent}
-use Rattle.saying.proofs.{Parts.always_back, Parts.Maybe, Parts.maybe_back, Parts.Maybe.there, Parts.Maybe.absent}
-use Rattle.record.specs.{Record.bytes_in, Record.maybe_version, Says.tested, Says.lent}
+use Rattle.saying.proofs.Parts.{always_back, field_back}
+use Rattle.record.specs.{Record.bytes_in, Says.tested, Says.lent}
 
 -- a part that says nothing
 pub unsaid : {k : Kind} {p : Part} {c : Cell} → Shown k p c → p.said ≡ none → c ≡ Cell.missing
@@ -38,19 +38,14 @@ lent_back n d k keeps s =
     rw (always_back k (Value.string (take n d)) (untested (leb n (length d)) (string (take n d)) s), keeps) (refl, length-take-le n d enough)
 
 -- a version
-no_release_lem : (m : MaybeVersion) → m.here ≡ false → T (no_release m) → record { here = false; major = 0; minor = 0; patch = 0 } ≡ m
-no_release_lem m e t =
-    let r = both_right (eqb m.major 0) (eqb m.minor 0 && eqb m.patch 0) t in
+no_release_lem : (v : Version) → T (no_release v) → record { major = 0; minor = 0; patch = 0 } ≡ v
+no_release_lem v t =
+    let r = both_right (eqb v.major 0) (eqb v.minor 0 && eqb v.patch 0) t in
     λ i. record {
-      here = sym e i;
-      major = sym (eqb→eq m.major 0 (both_left (eqb m.major 0) (eqb m.minor 0 && eqb m.patch 0) t)) i;
-      minor = sym (eqb→eq m.minor 0 (both_left (eqb m.minor 0) (eqb m.patch 0) r)) i;
-      patch = sym (eqb→eq m.patch 0 (both_right (eqb m.minor 0) (eqb m.patch 0) r)) i;
+      major = sym (eqb→eq v.major 0 (both_left (eqb v.major 0) (eqb v.minor 0 && eqb v.patch 0) t)) i;
+      minor = sym (eqb→eq v.minor 0 (both_left (eqb v.minor 0) (eqb v.patch 0) r)) i;
+      patch = sym (eqb→eq v.patch 0 (both_right (eqb v.minor 0) (eqb v.patch 0) r)) i;
     }
 
-pub version_back : (m : MaybeVersion) {c : Cell} → Shown Kind.versions (Says.version_if m) c → maybe_version c ≡ m
-version_back m {c} s = go m.here refl (maybe_back Kind.versions (release_value m) (no_release m) m.here c s)
-  where
-    go : (h : Bool) → m.here ≡ h → {c : Cell} → Maybe Kind.versions (release_value m) (no_release m) h c → maybe_version c ≡ m
-    go true e there = λ i. record { here = sym e i; major = m.major; minor = m.minor; patch = m.patch }
-    go false e (absent t) = no_release_lem m e t
+pub version_back : (m : Maybe Version) {c : Cell} → Shown Kind.versions (Says.version_if m) c → maybe_of version_in c ≡ m
+version_back m s = field_back version_in Kind.versions m (release_value m.value) (no_release m.value) refl (no_release_lem m.value) s

@@ -3,14 +3,11 @@ use Prim.Native.{Nat.ℕ, Nat.zero, Nat.suc, String.String}
 use Rattle.std.specs.Prelude.{List, [], ◌∷◌}
 use Rattle.octets.specs.{Number.big_at, Pieces.downlink_bytes}
 use Rattle.names.specs.Names.{bytes, name_at, downlink, if_downlink}
-use Rattle.field.specs.Cell.{Cell, value_in, here, number_in}
-use Rattle.message.specs.Record.{word_in, figure_in, id_in, mark_in, string_of, counts_of, strings_of, maybe_word, maybe_id, maybe_real, maybe_mark, maybe_position}
-use Rattle.message.specs.declared.{MaybeVersion.MaybeVersion, Signal.Signal}
+use Rattle.field.specs.Cell.{Cell, value_in}
+use Rattle.message.specs.Record.{word_in, figure_in, id_in, mark_in, string_of, counts_of, strings_of, position_in, version_in, maybe_of}
+use Rattle.message.specs.declared.Signal.{Signal}
 use Rattle.record.specs.declared.{Sixteen.Sixteen, Con.Con, ConRsp.ConRsp, StatusRsp.StatusRsp, Packet.Packet, Det.Det, AttPrp.AttPrp}
 use Rattle.record.specs.declared.{UlData.UlData, DlDataQue.DlDataQue, Body.Body, Message.Message}
-
-abbrev pub maybe_version : Cell → MaybeVersion
-maybe_version c = record { here = here c; major = number_in 0 c; minor = number_in 1 c; patch = number_in 2 c }
 
 -- bytes as a number, and sixteen of them as two; a byte that is not there counts as 0
 abbrev pub bytes_in : Cell → List ℕ
@@ -42,18 +39,18 @@ module _ (look : List ℕ → Cell) where
 
   abbrev pub con_of : Con
   con_of = record {
-    version = maybe_version (on "version");
+    version = maybe_of version_in (on "version");
     bs_eui = word_in (on "bsEui");
     bidi = mark_in (on "bidi");
-    geo_location = maybe_position (on "geoLocation");
+    geo_location = maybe_of position_in (on "geoLocation");
     sn_bs_uuid = sixteen_in (on "snBsUuid");
-    sn_bs_op_id = maybe_id (on "snBsOpId");
-    sn_sc_op_id = maybe_id (on "snScOpId");
+    sn_bs_op_id = maybe_of id_in (on "snBsOpId");
+    sn_sc_op_id = maybe_of id_in (on "snScOpId");
   }
 
   abbrev pub con_rsp_of : ConRsp
   con_rsp_of = record {
-    version = maybe_version (on "version");
+    version = maybe_of version_in (on "version");
     sc_eui = word_in (on "scEui");
     sn_resume = mark_in (on "snResume");
     sn_sc_uuid = sixteen_in (on "snScUuid");
@@ -65,21 +62,21 @@ module _ (look : List ℕ → Cell) where
     message_len = word_in (on "message");
     time = word_in (on "time");
     duty_cycle = figure_in (on "dutyCycle");
-    geo_location = maybe_position (on "geoLocation");
-    uptime = maybe_word (on "uptime");
-    temp = maybe_real (on "temp");
-    cpu_load = maybe_real (on "cpuLoad");
-    mem_load = maybe_real (on "memLoad");
+    geo_location = maybe_of position_in (on "geoLocation");
+    uptime = maybe_of word_in (on "uptime");
+    temp = maybe_of figure_in (on "temp");
+    cpu_load = maybe_of figure_in (on "cpuLoad");
+    mem_load = maybe_of figure_in (on "memLoad");
   }
 
   abbrev pub signal_of : Signal
-  signal_of = record { snr = figure_in (on "snr"); rssi = figure_in (on "rssi"); eq_snr = figure_in (on "eqSnr"); has_eq_snr = here (on "eqSnr") }
+  signal_of = record { snr = figure_in (on "snr"); rssi = figure_in (on "rssi"); eq_snr = maybe_of figure_in (on "eqSnr") }
 
   abbrev pub packet_of : Packet
   packet_of = record {
     ep_eui = word_in (on "epEui");
     rx_time = word_in (on "rxTime");
-    rx_duration = maybe_word (on "rxDuration");
+    rx_duration = maybe_of word_in (on "rxDuration");
     packet_cnt = word_in (on "packetCnt");
     signal = signal_of;
     profile_len = word_in (on "profile");
@@ -121,10 +118,10 @@ module _ (look : List ℕ → Cell) where
     entries = word_in (on "userData");
     format = word_in (on "format");
     prio = figure_in (on "prio");
-    response_exp = maybe_mark (on "responseExp");
-    response_prio = maybe_mark (on "responsePrio");
-    dl_wind_req = maybe_mark (on "dlWindReq");
-    exp_only = maybe_mark (on "expOnly");
+    response_exp = maybe_of mark_in (on "responseExp");
+    response_prio = maybe_of mark_in (on "responsePrio");
+    dl_wind_req = maybe_of mark_in (on "dlWindReq");
+    exp_only = maybe_of mark_in (on "expOnly");
   }
 
   -- document 01's, in the order of `commands`

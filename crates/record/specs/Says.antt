@@ -51,7 +51,7 @@ packet_sayings p rs =
     says "packetCnt" (word p.packet_cnt) ∷
     says "snr" (real p.signal.snr) ∷
     says "rssi" (real p.signal.rssi) ∷
-    says "eqSnr" (real_if p.signal.has_eq_snr p.signal.eq_snr) ∷
+    says "eqSnr" (real_if p.signal.eq_snr) ∷
     says "profile" (string_if 16 p.profile_len (sixteen_bytes p.profile)) ∷
     rs
 
@@ -83,9 +83,9 @@ body_sayings (Body.StatusRsp x) d =
     says "dutyCycle" (real x.duty_cycle) ∷
     says "geoLocation" (position_if x.geo_location) ∷
     says "uptime" (word_if x.uptime) ∷
-    says "temp" (real_if x.temp.here x.temp.value) ∷
-    says "cpuLoad" (real_if x.cpu_load.here x.cpu_load.value) ∷
-    says "memLoad" (real_if x.mem_load.here x.mem_load.value) ∷
+    says "temp" (real_if x.temp) ∷
+    says "cpuLoad" (real_if x.cpu_load) ∷
+    says "memLoad" (real_if x.mem_load) ∷
     []
 body_sayings (Body.Det x) d = packet_sayings x.packet (says "sign" (four x.sign) ∷ [])
 body_sayings (Body.DetRsp sign) d = says "sign" (four sign) ∷ []

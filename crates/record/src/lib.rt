@@ -4,7 +4,7 @@
 ghost use Rattle.std.specs.Prelude.{◌≡◌};
 ghost use Rattle.record.specs.Record.{command_in};
 
-use message::{MaybeId, MaybeMark, MaybePosition, MaybeReal, MaybeVersion, MaybeWord};
+use message::{Maybe, Version};
 use names::numbers;
 
 // Sixteen bytes, big endian.
@@ -16,18 +16,18 @@ pub struct Sixteen {
 
 #[derive(Clone, Copy)]
 pub struct Con {
-    pub version: MaybeVersion,
+    pub version: Maybe<Version>,
     pub bs_eui: u64,
     pub bidi: bool,
-    pub geo_location: MaybePosition,
+    pub geo_location: Maybe<field::Position>,
     pub sn_bs_uuid: Sixteen,
-    pub sn_bs_op_id: MaybeId,
-    pub sn_sc_op_id: MaybeId,
+    pub sn_bs_op_id: Maybe<i64>,
+    pub sn_sc_op_id: Maybe<i64>,
 }
 
 #[derive(Clone, Copy)]
 pub struct ConRsp {
-    pub version: MaybeVersion,
+    pub version: Maybe<Version>,
     pub sc_eui: u64,
     pub sn_resume: bool,
     pub sn_sc_uuid: Sixteen,
@@ -40,11 +40,11 @@ pub struct StatusRsp {
     pub message_len: u8,
     pub time: u64,
     pub duty_cycle: f64,
-    pub geo_location: MaybePosition,
-    pub uptime: MaybeWord,
-    pub temp: MaybeReal,
-    pub cpu_load: MaybeReal,
-    pub mem_load: MaybeReal,
+    pub geo_location: Maybe<field::Position>,
+    pub uptime: Maybe<u64>,
+    pub temp: Maybe<f64>,
+    pub cpu_load: Maybe<f64>,
+    pub mem_load: Maybe<f64>,
 }
 
 // What det and ulData tell of a received packet. A profile of no bytes is absent.
@@ -52,7 +52,7 @@ pub struct StatusRsp {
 pub struct Packet {
     pub ep_eui: u64,
     pub rx_time: u64,
-    pub rx_duration: MaybeWord,
+    pub rx_duration: Maybe<u64>,
     pub packet_cnt: u32,
     pub signal: message::Signal,
     pub profile_len: u8,
@@ -98,10 +98,10 @@ pub struct DlDataQue {
     pub entries: u8,
     pub format: u8,
     pub prio: f64,
-    pub response_exp: MaybeMark,
-    pub response_prio: MaybeMark,
-    pub dl_wind_req: MaybeMark,
-    pub exp_only: MaybeMark,
+    pub response_exp: Maybe<bool>,
+    pub response_prio: Maybe<bool>,
+    pub dl_wind_req: Maybe<bool>,
+    pub exp_only: Maybe<bool>,
 }
 
 // What each command has behind opId. detRsp has its sign, big endian, and detPrp its epEui; fifteen commands have nothing: their number.

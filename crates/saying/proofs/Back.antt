@@ -10,6 +10,7 @@ use Rattle.octets.specs.Pieces.{are_below, strung}
 use borrow.Author.Tests.{le-leb}
 use Rattle.octets.proofs.Ranges.{both_left, both_right, is_true}
 use Rattle.element.specs.Meaning.{meaning_of, meaning_of_all}
+use Rattle.std.specs.Prelude.{Some}
 use Rattle.number.specs.declared.Number.TheVariants.{Real}
 use Rattle.number.specs.Number.{finite, number_of}
 use Rattle.forms.specs.Shortest.{whole_tree, real_tree, array_tree, number_trees, numbers_tree, piece_trees, version_text}
@@ -39,7 +40,7 @@ whole_back lo hi (negsuc k) h t =
     let m = leb→le (suc k) lo t in
     rw (negsuc_means k (omega arith)) (passed (leb (suc k) lo) (Value.number (negsuc k)) t)
 
-real_back : (x : Float) → T (is_real x) → number_of (meaning_of (real_tree x)) ≡ Real x
+real_back : (x : Float) → T (is_real x) → number_of (meaning_of (real_tree x)) ≡ Some (Real x)
 real_back x t =
     real_number x (both_right (finite binary64 (to_bits binary64 x)) (holds binary64 x) t)
     (both_left (finite binary64 (to_bits binary64 x)) (holds binary64 x) t)

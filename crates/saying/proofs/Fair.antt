@@ -13,8 +13,9 @@ use lib.Ieee.Fits.{and_i, of_int-fits}
 use Rattle.octets.specs.{Choice.either, Pieces.are_below, Pieces.strung}
 use Rattle.element.specs.{Meaning.Element, Meaning.Elements, Meaning.Elements.no_more, Meaning.Elements.more}
 use Rattle.element.specs.Meaning.Element.{null, truth, whole, single, double, text, octets, typed, list, table}
-use Rattle.number.specs.declared.Number.{Number, TheVariants.Signed, TheVariants.Unsigned, TheVariants.Real, TheVariants.Not}
-use Rattle.number.specs.Number.{number_of, finite}
+use Rattle.std.specs.Prelude.{Some, None}
+use Rattle.number.specs.declared.Number.TheVariants.{Signed, Unsigned, Real}
+use Rattle.number.specs.Number.{Found, number_of, finite}
 use Rattle.number.proofs.Finite.{is_fin, bits_fin, bits_fit, valued_fin}
 use Rattle.field.specs.Kind.{Kind, Value}
 use Rattle.field.specs.Judge.{when, on_some, in_range, whole_in, whole_real, real_in, natural_in, truth_of, text_of, parts_of, naturals_in, octets_in, piece_in, pieces_in, reals_in, three_of, counts_sized, strings_sized, string_sized, judge}
@@ -50,13 +51,13 @@ bits_real : (f : Format) (n : ℕ) → T (finite f n) → T (is_real (of_bits f 
 bits_real f n t = fin_real (of_bits f n) (bits_fit f n) (subst T (sym (bits_fin f n)) t)
 
 -- what is read as a real
-abbrev RealRead : Number → Type 0
-RealRead (Signed z) = Unit {0}
-RealRead (Unsigned n) = Unit {0}
-RealRead (Real x) = T (is_real x)
-RealRead Not = Unit {0}
+abbrev RealRead : Found → Type 0
+RealRead (Some (Signed z)) = Unit {0}
+RealRead (Some (Unsigned n)) = Unit {0}
+RealRead (Some (Real x)) = T (is_real x)
+RealRead None = Unit {0}
 
-bits_read : (f : Format) (n : ℕ) (b : Bool) → finite f n ≡ b → RealRead (either b (λ _. Real (of_bits f n)) (λ _. Not))
+bits_read : (f : Format) (n : ℕ) (b : Bool) → finite f n ≡ b → RealRead (either b (λ _. Some (Real (of_bits f n))) (λ _. None))
 bits_read f n true e = bits_real f n (rw e tt)
 bits_read f n false e = tt
 
@@ -86,11 +87,11 @@ whole_in_lem z = go (in_range (2 ^ 53) (2 ^ 53) z) refl
     go true e = fin_real (of_int binary64 z) (of_int-fits binary64 z) (valued_fin (of_int binary64 z) (is_negative z) (nat_abs z) 1 (whole_value z (rw e tt)))
     go false e = tt
 
-real_in_lem : (n : Number) → RealRead n → Where (λ (x : Float). T (is_real x)) (real_in n)
-real_in_lem (Signed z) t = whole_in_lem z
-real_in_lem (Unsigned n) t = whole_in_lem (pos n)
-real_in_lem (Real x) t = t
-real_in_lem Not t = tt
+real_in_lem : (n : Found) → RealRead n → Where (λ (x : Float). T (is_real x)) (real_in n)
+real_in_lem (Some (Signed z)) t = whole_in_lem z
+real_in_lem (Some (Unsigned n)) t = whole_in_lem (pos n)
+real_in_lem (Some (Real x)) t = t
+real_in_lem None t = tt
 
 abbrev AllReal : List Float → Type 0
 AllReal [] = Unit {0}
@@ -106,15 +107,15 @@ reals_in_lem (more e es) = go (real_in (number_of e)) (real_in_lem (number_of e)
     go (some x) t none u = tt
     go (some x) t (some xs) u = (t, u)
 
-natural_in_lem : (hi : ℕ) (n : Number) → Where (λ (b : ℕ). T (ltb b (suc hi))) (natural_in hi n)
-natural_in_lem hi (Signed z) = tt
-natural_in_lem hi (Unsigned n) = go (leb n hi) refl
+natural_in_lem : (hi : ℕ) (n : Found) → Where (λ (b : ℕ). T (ltb b (suc hi))) (natural_in hi n)
+natural_in_lem hi (Some (Signed z)) = tt
+natural_in_lem hi (Some (Unsigned n)) = go (leb n hi) refl
   where
     go : (b : Bool) → leb n hi ≡ b → Where (λ (b : ℕ). T (ltb b (suc hi))) (either b (λ _. some n) (λ _. none))
     go true e = rw (leb-suc-suc, e) tt
     go false e = tt
-natural_in_lem hi (Real x) = tt
-natural_in_lem hi Not = tt
+natural_in_lem hi (Some (Real x)) = tt
+natural_in_lem hi None = tt
 
 -- a test of lists that holds of none, and of one number more up to hi
 module _ (hi : ℕ) (test : List ℕ → Bool) (nothing : T (test [])) (one_more : (n : ℕ) (ns : List ℕ) → T (ltb n (suc hi)) → T (test ns) → T (test (n ∷ ns))) where
@@ -223,11 +224,11 @@ fair_when : (k : Kind) (b : Bool) (v : Value) → (T b → Fair k (Cell.good v))
 fair_when k true v f t = f tt
 fair_when k false v f t = absurd t
 
-whole_fair : (lo hi : ℕ) (n : Number) → FairIf (Kind.wholes lo hi) (whole_in lo hi n)
-whole_fair lo hi (Signed z) = fair_when (Kind.wholes lo hi) (in_range lo hi z) (Value.number z) (Fair.number lo hi z)
-whole_fair lo hi (Unsigned n) = fair_when (Kind.wholes lo hi) (leb n hi) (Value.number (pos n)) (Fair.number lo hi (pos n))
-whole_fair lo hi (Real x) = λ t. absurd t
-whole_fair lo hi Not = λ t. absurd t
+whole_fair : (lo hi : ℕ) (n : Found) → FairIf (Kind.wholes lo hi) (whole_in lo hi n)
+whole_fair lo hi (Some (Signed z)) = fair_when (Kind.wholes lo hi) (in_range lo hi z) (Value.number z) (Fair.number lo hi z)
+whole_fair lo hi (Some (Unsigned n)) = fair_when (Kind.wholes lo hi) (leb n hi) (Value.number (pos n)) (Fair.number lo hi (pos n))
+whole_fair lo hi (Some (Real x)) = λ t. absurd t
+whole_fair lo hi None = λ t. absurd t
 
 real_fair : (o : Option Float) → Where (λ (x : Float). T (is_real x)) o → FairIf Kind.reals (on_some o (λ x. some (Value.figure x)))
 real_fair none r t = absurd t

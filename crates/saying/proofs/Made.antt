@@ -11,7 +11,7 @@ use Rattle.octets.specs.Choice.{either}
 use Rattle.octets.proofs.Ranges.{true_is}
 use Rattle.field.specs.Kind.{Kind, Value}
 use Rattle.field.specs.Cell.{Cell, zero64, here, origin}
-use Rattle.message.specs.Record.{word_in, figure_in, id_in, mark_in, maybe_word, maybe_id, maybe_mark, maybe_position}
+use Rattle.message.specs.Record.{word_in, figure_in, id_in, mark_in, position_in, maybe_of}
 use Rattle.saying.specs.Says as Says
 use Rattle.saying.specs.Says.{Part, no_bits, no_position, word, id, mark, real, real_if, mark_if, position_if, unless_zero, unless_plus_zero}
 use Rattle.saying.specs.Fits.{is_real, within}
@@ -54,7 +54,7 @@ module _ (must : Bool) where
     word_made (Fair.number lo top (pos n) t) = t
     word_made (Fair.number lo top (negsuc n) t) = not_below n t
 
-    pub maybe_word_made : {c : Cell} → Fair (Kind.wholes 0 hi) c → T (is_made must (Kind.wholes 0 hi) c (Says.word_if (maybe_word c)))
+    pub maybe_word_made : {c : Cell} → Fair (Kind.wholes 0 hi) c → T (is_made must (Kind.wholes 0 hi) c (Says.word_if (maybe_of word_in c)))
     unfolding within
     maybe_word_made (Fair.left k) = tt
     maybe_word_made (Fair.number lo top (pos n) t) = t
@@ -66,7 +66,7 @@ module _ (must : Bool) where
     id_made (Fair.left k) = no_less hi
     id_made (Fair.number low top z t) = t
 
-    pub maybe_id_made : {c : Cell} → Fair (Kind.wholes lo hi) c → T (is_made must (Kind.wholes lo hi) c (Says.id_if (maybe_id c)))
+    pub maybe_id_made : {c : Cell} → Fair (Kind.wholes lo hi) c → T (is_made must (Kind.wholes lo hi) c (Says.id_if (maybe_of id_in c)))
     unfolding within
     maybe_id_made (Fair.left k) = tt
     maybe_id_made (Fair.number low top z t) = t
@@ -81,17 +81,17 @@ module _ (must : Bool) where
   real_made (Fair.left k) = zero_real
   real_made (Fair.figure x t) = t
 
-  pub maybe_real_made : {c : Cell} → Fair Kind.reals c → T (is_made must Kind.reals c (real_if (here c) (figure_in c)))
+  pub maybe_real_made : {c : Cell} → Fair Kind.reals c → T (is_made must Kind.reals c (real_if (maybe_of figure_in c)))
   unfolding within
   maybe_real_made (Fair.left k) = and_i (no_bits zero64) true no_figure tt
   maybe_real_made (Fair.figure x t) = t
 
-  pub maybe_mark_made : {c : Cell} → Fair Kind.flags c → T (is_made must Kind.flags c (mark_if (maybe_mark c)))
+  pub maybe_mark_made : {c : Cell} → Fair Kind.flags c → T (is_made must Kind.flags c (mark_if (maybe_of mark_in c)))
   unfolding within
   maybe_mark_made (Fair.left k) = tt
   maybe_mark_made (Fair.mark b) = tt
 
-  pub maybe_place_made : {c : Cell} → Fair Kind.positions c → T (is_made must Kind.positions c (position_if (maybe_position c)))
+  pub maybe_place_made : {c : Cell} → Fair Kind.positions c → T (is_made must Kind.positions c (position_if (maybe_of position_in c)))
   unfolding within
   maybe_place_made (Fair.left k) = and_i (no_position origin) true no_position_lem tt
   maybe_place_made (Fair.position x y z a b d) = and_i (is_real x) (is_real y && is_real z) a (and_i (is_real y) (is_real z) b d)

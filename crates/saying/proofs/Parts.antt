@@ -15,8 +15,8 @@ use Rattle.names.proofs.Same.{same_eq}
 use Rattle.field.specs.declared.Position.{Position}
 use Rattle.field.specs.Kind.{Kind, Value}
 use Rattle.field.specs.Cell.{Cell, zero64, value_in, here, origin}
-use Rattle.message.specs.Record.{word_in, figure_in, id_in, mark_in, string_of, maybe_word, maybe_id, maybe_mark, maybe_position}
-use Rattle.message.specs.declared.{MaybeWord.MaybeWord, MaybeId.MaybeId, MaybeMark.MaybeMark, MaybePosition.MaybePosition}
+use Rattle.message.specs.Record.{word_in, figure_in, id_in, mark_in, position_in, string_of, maybe_of}
+use Rattle.message.specs.declared.Maybe.{Maybe}
 use Rattle.saying.specs.Says as Says
 use Rattle.saying.specs.Says.{Part, no_bits, no_position, position_value, always, said_if, word, id, mark, real, string, position_if, unless_zero, is_zero, are_nulls, tidy, string_if}
 use Rattle.saying.proofs.{Shown.Shown, Shown.kept_by, Shown.Shown.spoken, Shown.Shown.silent}
@@ -32,16 +32,25 @@ pub always_back : (k : Kind) (v : Value) {c : Cell} → Shown k (always v) c →
 always_back k v (spoken u e t w) = ap (λ (x : Value). Cell.good (kept_by k x)) (sym (some_is e))
 always_back k v (silent e t) = none_some (sym e)
 
-pub data Maybe (k : Kind) (v : Value) (empty : Bool) : Bool → Cell → Type 0 where
-  there : Maybe k v empty true (Cell.good (kept_by k v))
-  absent : T empty → Maybe k v empty false Cell.missing
+pub data Stands (k : Kind) (v : Value) (empty : Bool) : Bool → Cell → Type 0 where
+  there : Stands k v empty true (Cell.good (kept_by k v))
+  absent : T empty → Stands k v empty false Cell.missing
 
 module _ (k : Kind) (v : Value) (empty : Bool) where
-  pub maybe_back : (h : Bool) (c : Cell) → Shown k (said_if h v empty) c → Maybe k v empty h c
-  maybe_back true c (spoken u e t w) = subst (λ (x : Value). Maybe k v empty true (Cell.good (kept_by k x))) (some_is e) there
+  pub maybe_back : (h : Bool) (c : Cell) → Shown k (said_if h v empty) c → Stands k v empty h c
+  maybe_back true c (spoken u e t w) = subst (λ (x : Value). Stands k v empty true (Cell.good (kept_by k x))) (some_is e) there
   maybe_back true c (silent e t) = none_some (sym e)
   maybe_back false c (spoken u e t w) = none_some e
   maybe_back false c (silent e t) = absent t
+
+-- a field that may be absent: f gives its value, and zero where there is none
+pub field_back : {A : Type 0} (f : Cell → A) (k : Kind) (m : Maybe A) (v : Value) (empty : Bool) → f (Cell.good (kept_by k v)) ≡ m.value → (T empty → f Cell.missing ≡ m.value)
+    → {c : Cell} → Shown k (said_if m.here v empty) c → maybe_of f c ≡ m
+field_back f k m v empty g z {c} s = go m.here refl (maybe_back k v empty m.here c s)
+  where
+    go : (h : Bool) → m.here ≡ h → {c : Cell} → Stands k v empty h c → maybe_of f c ≡ m
+    go true e there = λ i. record { here = sym e i; value = g i }
+    go false e (absent t) = λ i. record { here = sym e i; value = z t i }
 
 zero_is : (z : ℤ) → T (is_zero z) → pos 0 ≡ z
 zero_is (pos n) t = ap pos (sym (eqb→eq n 0 t))
@@ -57,54 +66,40 @@ module _ {lo hi : ℕ} where
   pub bytes_back : {d : List ℕ} {c : Cell} → Shown (Kind.arrays lo hi) (string d) c → string_of (value_in c) ≡ d
   bytes_back {d} s = ap (λ (c : Cell). string_of (value_in c)) (always_back (Kind.arrays lo hi) (Value.string d) s)
 
-  pub maybe_word_back : (m : MaybeWord) {c : Cell} → Shown (Kind.wholes lo hi) (Says.word_if m) c → maybe_word c ≡ m
-  maybe_word_back m {c} s = go m.here refl (maybe_back (Kind.wholes lo hi) (Value.number (pos m.value)) (eqb m.value 0) m.here c s)
-    where
-      go : (h : Bool) → m.here ≡ h → {c : Cell} → Maybe (Kind.wholes lo hi) (Value.number (pos m.value)) (eqb m.value 0) h c → maybe_word c ≡ m
-      go true e there = λ i. record { here = sym e i; value = m.value }
-      go false e (absent t) = λ i. record { here = sym e i; value = sym (eqb→eq m.value 0 t) i }
+  pub maybe_word_back : (m : Maybe ℕ) {c : Cell} → Shown (Kind.wholes lo hi) (Says.word_if m) c → maybe_of word_in c ≡ m
+  maybe_word_back m s = field_back word_in (Kind.wholes lo hi) m (Value.number (pos m.value)) (eqb m.value 0) refl (λ t. sym (eqb→eq m.value 0 t)) s
 
-  pub maybe_id_back : (m : MaybeId) {c : Cell} → Shown (Kind.wholes lo hi) (Says.id_if m) c → maybe_id c ≡ m
-  maybe_id_back m {c} s = go m.here refl (maybe_back (Kind.wholes lo hi) (Value.number m.value) (is_zero m.value) m.here c s)
-    where
-      go : (h : Bool) → m.here ≡ h → {c : Cell} → Maybe (Kind.wholes lo hi) (Value.number m.value) (is_zero m.value) h c → maybe_id c ≡ m
-      go true e there = λ i. record { here = sym e i; value = m.value }
-      go false e (absent t) = λ i. record { here = sym e i; value = zero_is m.value t i }
+  pub maybe_id_back : (m : Maybe ℤ) {c : Cell} → Shown (Kind.wholes lo hi) (Says.id_if m) c → maybe_of id_in c ≡ m
+  maybe_id_back m s = field_back id_in (Kind.wholes lo hi) m (Value.number m.value) (is_zero m.value) refl (zero_is m.value) s
 
   pub unless_zero_back : (n : ℕ) {c : Cell} → Shown (Kind.wholes lo hi) (unless_zero n) c → word_in c ≡ n
   unless_zero_back n {c} s = go (maybe_back (Kind.wholes lo hi) (Value.number (pos n)) (eqb n 0) (not (eqb n 0)) c s)
     where
-      go : {h : Bool} {c : Cell} → Maybe (Kind.wholes lo hi) (Value.number (pos n)) (eqb n 0) h c → word_in c ≡ n
+      go : {h : Bool} {c : Cell} → Stands (Kind.wholes lo hi) (Value.number (pos n)) (eqb n 0) h c → word_in c ≡ n
       go there = refl
       go (absent t) = sym (eqb→eq n 0 t)
 
 pub mark_back : {b : Bool} {c : Cell} → Shown Kind.flags (mark b) c → mark_in c ≡ b
 mark_back {b} s = ap mark_in (always_back Kind.flags (Value.mark b) s)
 
-pub maybe_mark_back : (m : MaybeMark) {c : Cell} → Shown Kind.flags (Says.mark_if m) c → maybe_mark c ≡ m
-maybe_mark_back m {c} s = go m.here refl m.value refl (maybe_back Kind.flags (Value.mark m.value) (not m.value) m.here c s)
-  where
-    go : (h : Bool) → m.here ≡ h → (b : Bool) → m.value ≡ b → {c : Cell} → Maybe Kind.flags (Value.mark m.value) (not b) h c → maybe_mark c ≡ m
-    go true e b f there = λ i. record { here = sym e i; value = m.value }
-    go false e true f (absent t) = absurd t
-    go false e false f (absent t) = λ i. record { here = sym e i; value = sym f i }
+no_mark : (b : Bool) → T (not b) → false ≡ b
+no_mark true t = absurd t
+no_mark false t = refl
+
+pub maybe_mark_back : (m : Maybe Bool) {c : Cell} → Shown Kind.flags (Says.mark_if m) c → maybe_of mark_in c ≡ m
+maybe_mark_back m s = field_back mark_in Kind.flags m (Value.mark m.value) (not m.value) refl (no_mark m.value) s
 
 pub real_back : {x : Float} {c : Cell} → Shown Kind.reals (real x) c → figure_in c ≡ x
 real_back {x} s = ap figure_in (always_back Kind.reals (Value.figure x) s)
 
--- a real that may be absent: its presence and its value
-pub maybe_real_back : (h : Bool) (x : Float) {c : Cell} → Shown Kind.reals (Says.real_if h x) c → (here c ≡ h) × (figure_in c ≡ x)
-maybe_real_back h x {c} s = go (maybe_back Kind.reals (Value.figure x) (no_bits x) h c s)
-  where
-    go : {h : Bool} {c : Cell} → Maybe Kind.reals (Value.figure x) (no_bits x) h c → (here c ≡ h) × (figure_in c ≡ x)
-    go there = (refl, refl)
-    go (absent t) = (refl, no_bits_lem x t)
+pub maybe_real_back : (m : Maybe Float) {c : Cell} → Shown Kind.reals (Says.real_if m) c → maybe_of figure_in c ≡ m
+maybe_real_back m s = field_back figure_in Kind.reals m (Value.figure m.value) (no_bits m.value) refl (no_bits_lem m.value) s
 
 -- one whose plus zero isn't said
 pub unless_plus_zero_back : (x : Float) {c : Cell} → Shown Kind.singles (Says.unless_plus_zero x) c → figure_in c ≡ x
 unless_plus_zero_back x {c} s = go (maybe_back Kind.singles (Value.figure x) (no_bits x) (not (no_bits x)) c s)
   where
-    go : {h : Bool} {c : Cell} → Maybe Kind.singles (Value.figure x) (no_bits x) h c → figure_in c ≡ x
+    go : {h : Bool} {c : Cell} → Stands Kind.singles (Value.figure x) (no_bits x) h c → figure_in c ≡ x
     go there = refl
     go (absent t) = no_bits_lem x t
 
@@ -118,12 +113,8 @@ no_place p t =
       altitude = no_bits_lem p.altitude (both_right (no_bits p.longitude) (no_bits p.altitude) r) i;
     }
 
-pub maybe_place_back : (m : MaybePosition) {c : Cell} → Shown Kind.positions (position_if m) c → maybe_position c ≡ m
-maybe_place_back m {c} s = go m.here refl (maybe_back Kind.positions (position_value m.value) (no_position m.value) m.here c s)
-  where
-    go : (h : Bool) → m.here ≡ h → {c : Cell} → Maybe Kind.positions (position_value m.value) (no_position m.value) h c → maybe_position c ≡ m
-    go true e there = λ i. record { here = sym e i; value = m.value }
-    go false e (absent t) = λ i. record { here = sym e i; value = no_place m.value t i }
+pub maybe_place_back : (m : Maybe Position) {c : Cell} → Shown Kind.positions (position_if m) c → maybe_of position_in c ≡ m
+maybe_place_back m s = field_back position_in Kind.positions m (position_value m.value) (no_position m.value) refl (no_place m.value) s
 
 -- bytes, and zeros behind them
 zeros_are : (n : ℕ) (d : List ℕ) → T (are_nulls n d) → d ≡ replicate n 0

@@ -9,7 +9,7 @@ use Rattle.octets.specs.Choice.{either}
 use Rattle.names.specs.Names.{bytes, same_bytes}
 use Rattle.field.specs.Kind.{Value}
 use Rattle.field.specs.declared.Position.{Position}
-use Rattle.message.specs.declared.{MaybeWord.MaybeWord, MaybeId.MaybeId, MaybeMark.MaybeMark, MaybePosition.MaybePosition, MaybeVersion.MaybeVersion}
+use Rattle.message.specs.declared.{Maybe.Maybe, Version.Version}
 
 -- what a part of a record says, if anything; and whether nothing is in it beside that
 pub record Part : Type 0 where
@@ -50,32 +50,32 @@ real x = always (Value.figure x)
 abbrev pub string : List ℕ → Part
 string d = always (Value.string d)
 
-abbrev pub real_if : Bool → Float → Part
-real_if here x = said_if here (Value.figure x) (no_bits x)
+abbrev pub real_if : Maybe Float → Part
+real_if w = said_if w.here (Value.figure w.value) (no_bits w.value)
 
-abbrev pub word_if : MaybeWord → Part
+abbrev pub word_if : Maybe ℕ → Part
 word_if w = said_if w.here (Value.number (pos w.value)) (eqb w.value 0)
 
-abbrev pub id_if : MaybeId → Part
+abbrev pub id_if : Maybe ℤ → Part
 id_if w = said_if w.here (Value.number w.value) (is_zero w.value)
 
-abbrev pub mark_if : MaybeMark → Part
+abbrev pub mark_if : Maybe Bool → Part
 mark_if w = said_if w.here (Value.mark w.value) (not w.value)
 
 abbrev pub position_value : Position → Value
 position_value p = Value.position p.latitude p.longitude p.altitude
 
-abbrev pub position_if : MaybePosition → Part
+abbrev pub position_if : Maybe Position → Part
 position_if w = said_if w.here (position_value w.value) (no_position w.value)
 
-abbrev pub release_value : MaybeVersion → Value
-release_value w = Value.release w.major w.minor w.patch
+abbrev pub release_value : Version → Value
+release_value v = Value.release v.major v.minor v.patch
 
-abbrev pub no_release : MaybeVersion → Bool
-no_release w = eqb w.major 0 && (eqb w.minor 0 && eqb w.patch 0)
+abbrev pub no_release : Version → Bool
+no_release v = eqb v.major 0 && (eqb v.minor 0 && eqb v.patch 0)
 
-abbrev pub version_if : MaybeVersion → Part
-version_if w = said_if w.here (release_value w) (no_release w)
+abbrev pub version_if : Maybe Version → Part
+version_if w = said_if w.here (release_value w.value) (no_release w.value)
 
 -- a number whose zero isn't written
 abbrev pub unless_zero : ℕ → Part

@@ -76,7 +76,7 @@ module _ (s : Session) where
   counted_waiting m h =
       by_con (Counts s) m.body _ _
       (λ x e. by_test (Counts s) (same_id m.op_id (pos 0)) _ _
-      (by_test (Counts s) (eqb x.version.major 1 && eqb x.version.minor 0) _ _
+      (by_test (Counts s) (eqb x.version.value.major 1 && eqb x.version.value.minor 0) _ _
       (by_test (Counts s) (resumes s x) _ _ (record { station = refl; centre = refl }) (record { station = refl; centre = refl })) tt) tt) tt
 
   counted_connecting : (c : ℕ) (z : ℤ) → Counts s (in_connecting s c z)

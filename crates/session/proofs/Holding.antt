@@ -156,7 +156,7 @@ module _ (s : Session) (g : Held s) where
       held_waiting t =
           by_con Holds m.body _ _
           (λ x e. by_test Holds (same_id m.op_id (pos 0)) _ _
-          (by_test Holds (eqb x.version.major 1 && eqb x.version.minor 0) _ _
+          (by_test Holds (eqb x.version.value.major 1 && eqb x.version.value.minor 0) _ _
           (by_test Holds (resumes s x) _ _ (moved_held Connecting s.stored) (held_con x (eui_fits m d t x e))) tt) tt) tt
 
       held_state : (x : State) → fits m d ≡ true → Holds (in_state x s m h)

@@ -50,7 +50,7 @@ module _ (f : Session → ℤ) (S : Steady f) (s : Session) where
       by_test Waited (fits m d) _ _
       (by_con Waited m.body _ _
       (λ x e. by_test Waited (same_id m.op_id (pos 0)) _ _
-      (by_test Waited (eqb x.version.major 1 && eqb x.version.minor 0) _ _
+      (by_test Waited (eqb x.version.value.major 1 && eqb x.version.value.minor 0) _ _
       (by_test Waited (resumes s x) _ _ (inr (refl, S.resuming s)) (inl (refl, S.beginning h x))) (inr (refl, refl))) (inr (refl, refl))) (inr (refl, refl))) (inr (refl, refl))
 
   pub connecting_keeps : (c : ℕ) (z : ℤ) → Keeps (in_connecting s c z)

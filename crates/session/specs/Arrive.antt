@@ -41,7 +41,7 @@ abbrev pub con_rsp_with : ℕ → Bool → Sixteen → Message
 con_rsp_with eui resumed uuid =
     record {
       op_id = pos 0;
-      body = Body.ConRsp (record { version = record { here = true; major = 1; minor = 0; patch = 0 }; sc_eui = eui; sn_resume = resumed; sn_sc_uuid = uuid });
+      body = Body.ConRsp (record { version = record { here = true; value = record { major = 1; minor = 0; patch = 0 } }; sc_eui = eui; sn_resume = resumed; sn_sc_uuid = uuid });
     }
 
 -- the reply to a station's start: detRsp carries the host's sign
@@ -101,7 +101,7 @@ or_outcome (some a) f g = f a
 abbrev pub takes_con : Session → ℤ → Con → Host → Outcome
 takes_con s z x h =
     either (same_id z (pos 0))
-    (λ _. either (eqb x.version.major 1 && eqb x.version.minor 0) (λ _. connects s x h) (λ _. Outcome.refused refusal.Version))
+    (λ _. either (eqb x.version.value.major 1 && eqb x.version.value.minor 0) (λ _. connects s x h) (λ _. Outcome.refused refusal.Version))
     (λ _. Outcome.refused refusal.IdOutOfOrder)
 
 unfoldable pub in_waiting : Session → Message → Host → Outcome

@@ -12,6 +12,7 @@ use Rattle.element.specs.declared.Shape.TheVariants.{Text}
 use Rattle.element.specs.{Lead.Class, Lead.lead_bytes, Lead.row_in, Meaning.key_of, Meaning.meaning_of}
 use Rattle.element.specs.{Meaning.Element.truth, Meaning.Element.double, Meaning.Element.text}
 use Rattle.element.specs.Tree.{bytes_of, count_of, depth_of, shape_of_tree, Lawful}
+use Rattle.std.specs.Prelude.{Some}
 use Rattle.number.specs.declared.Number.TheVariants.{Real}
 use Rattle.number.specs.Number.{finite, number_of}
 use Rattle.forms.specs.Shortest.{real_tree, mark_tree, text_head, text_tree}
@@ -30,10 +31,10 @@ module _ (x : Float) where
         leaf_means Class.float64 0 8 0xCB [] real_row (big_bytes 8 (to_bits binary64 x))
         ∙ ap double (big_is 8 (to_bits binary64 x) (to_bits-lt binary64 x f))
 
-    pub real_number : T (finite binary64 (to_bits binary64 x)) → number_of (meaning_of (real_tree x)) ≡ Real x
+    pub real_number : T (finite binary64 (to_bits binary64 x)) → number_of (meaning_of (real_tree x)) ≡ Some (Real x)
     real_number h =
         ap number_of real_means
-        ∙ rw (← is_true (finite binary64 (to_bits binary64 x)) h) (ap Real (of_bits-to_bits binary64 x f))
+        ∙ rw (← is_true (finite binary64 (to_bits binary64 x)) h) (ap (λ (y : Float). Some (Real y)) (of_bits-to_bits binary64 x f))
 
   pub real_length : length (bytes_of (real_tree x)) ≡ 9
   unfolding real_tree bytes_of

@@ -16,7 +16,7 @@ use Rattle.std.specs.Int.{int_max, int_min}
 use Rattle.octets.specs.{Choice.either, Number.little_at, Number.if_there, Signed.signed_of}
 use Rattle.octets.proofs.Reading.{if_there_lem}
 use Rattle.names.specs.Names.{same_bytes}
-use Rattle.message.specs.declared.MaybeId.{MaybeId}
+use Rattle.message.specs.declared.Maybe.{Maybe}
 use Rattle.record.specs.declared.Con.{Con}
 use Rattle.record.specs.Says.{sixteen_bytes}
 use Rattle.session.specs.{Session.Session, Image.id_at, Image.session_at}
@@ -77,7 +77,7 @@ pub ge_kept : (a x y : ℤ) → mag a < 0x8000000000000000 → mag y < 0x8000000
 ge_kept a x y h k e = rw (kept a h, e, kept y k, le_is y a)
 
 -- what a con says that it knows, if it says so
-module _ (d : List ℕ) (id : MaybeId) (h : mag id.value < 0x8000000000000000) (x : ℤ) (g : mag x < 0x8000000000000000) where
+module _ (d : List ℕ) (id : Maybe ℤ) (h : mag id.value < 0x8000000000000000) (x : ℤ) (g : mag x < 0x8000000000000000) where
   pub station_knows : x ≡ highest_of (session_at d) → not id.here || le_z (to_z w64 (of_z w64 id.value)) (to_z w64 (of_z w64 x)) ≡ not id.here || not (is_below (highest_of (session_at d)) id.value)
   station_knows e = ap (λ (b : Bool). not id.here || b) (le_kept id.value x (highest_of (session_at d)) h (result_bits x (highest_of (session_at d)) g e) e)
 

@@ -90,10 +90,10 @@ module _ (d room : List ℕ) (z : ℤ) (g : SFits w64 z) (x : Con) (h : Host) wh
     zero_id : same_id z (pos 0) ≡ true
     zero_id = sym (zero_bits z g.sfits) ∙ eq-eqb (of_z w64 z) 0 e
 
-    pub con_other_version : (r : Answer) → not (eqb x.version.major 1) || not (eqb x.version.minor 0) ≡ true → r ≡ refused_as refusal.Version → ◌≡◌ {A = Called} (called r d room) (called_by d room takes)
-    con_other_version r k p = refused_call d room takes r refusal.Version p (simp (zero_id, not_both (eqb x.version.major 1) (eqb x.version.minor 0) k))
+    pub con_other_version : (r : Answer) → not (eqb x.version.value.major 1) || not (eqb x.version.value.minor 0) ≡ true → r ≡ refused_as refusal.Version → ◌≡◌ {A = Called} (called r d room) (called_by d room takes)
+    con_other_version r k p = refused_call d room takes r refusal.Version p (simp (zero_id, not_both (eqb x.version.value.major 1) (eqb x.version.value.minor 0) k))
 
-    module _ (k : not (eqb x.version.major 1) || not (eqb x.version.minor 0) ≡ false) (y : Bool) (f : y ≡ resumes (session_at d) x) (c : Called) where
+    module _ (k : not (eqb x.version.value.major 1) || not (eqb x.version.value.minor 0) ≡ false) (y : Bool) (f : y ≡ resumes (session_at d) x) (c : Called) where
       abbrev resuming : Outcome
       resuming = Outcome.replies happened.Resumed (resumed (session_at d)) (con_rsp_with h.sc_eui true (sixteen_of (session_at d).sn_sc_uuid)) []
 
@@ -102,12 +102,12 @@ module _ (d room : List ℕ) (z : ℤ) (g : SFits w64 z) (x : Con) (h : Host) wh
 
       pub con_resumes : y ≡ true → c ≡ called_by d room resuming → c ≡ called_by d room takes
       con_resumes t p =
-          let v = both_set (eqb x.version.major 1) (eqb x.version.minor 0) k in
+          let v = both_set (eqb x.version.value.major 1) (eqb x.version.value.minor 0) k in
           by_outcome d room c resuming takes p (simp (zero_id, v.0, v.1, sym f ∙ t))
 
       pub con_anew : y ≡ false → c ≡ called_by d room beginning → c ≡ called_by d room takes
       con_anew t p =
-          let v = both_set (eqb x.version.major 1) (eqb x.version.minor 0) k in
+          let v = both_set (eqb x.version.value.major 1) (eqb x.version.value.minor 0) k in
           by_outcome d room c beginning takes p (simp (zero_id, v.0, v.1, sym f ∙ t))
 
 -- waiting, by what arrived

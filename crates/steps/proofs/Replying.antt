@@ -103,7 +103,7 @@ module _ (s : Session) (m : Message) (h : Host) (a : Able m h) where
   waiting =
       by_con Fitting m.body _ _
       (λ x e. by_test Fitting (same_id m.op_id (pos 0)) _ _
-      (by_test Fitting (eqb x.version.major 1 && eqb x.version.minor 0) _ _
+      (by_test Fitting (eqb x.version.value.major 1 && eqb x.version.value.minor 0) _ _
       (by_test Fitting (resumes s x) _ _ (con_rsp_fits [] h.sc_eui true (sixteen_of s.sn_sc_uuid) a.eui) (con_rsp_fits [] h.sc_eui false (sixteen_of h.uuid) a.eui)) tt) tt) tt
 
   connecting : (c : ℕ) (z : ℤ) → Fitting (in_connecting s c z)

@@ -11,7 +11,7 @@ use crate::bytes::{same_sixteen, sixteen_at};
 use crate::reply::con_rsp;
 use crate::stored::begin_anew;
 use crate::{Done, lies};
-use message::MaybeId;
+use message::Maybe;
 use record::{Body, Con, Message};
 use refusal::Refusal;
 use session::Happened;
@@ -52,7 +52,7 @@ fn takes_con(
     if id != 0 {
         return Err(Refusal::IdOutOfOrder);
     }
-    if (x.version.major != 1) | (x.version.minor != 0) {
+    if (x.version.value.major != 1) | (x.version.value.minor != 0) {
         return Err(Refusal::Version);
     }
     if resumes(d, x) {
@@ -78,7 +78,7 @@ fn resumes(d: &[u8], x: Con) -> bool
 }
 
 // An snBsOpId if present is at most the highest station ID known.
-fn station_known(d: &[u8], id: MaybeId) -> bool
+fn station_known(d: &[u8], id: Maybe<i64>) -> bool
     requires { Lies d.now }
     ensures { result ≡ (not id.here || not (is_below (highest_of (session_at d.now)) id.value)) }
 {
@@ -86,7 +86,7 @@ fn station_known(d: &[u8], id: MaybeId) -> bool
 }
 
 // An snScOpId if present is at least the lowest centre ID issued.
-fn centre_known(d: &[u8], id: MaybeId) -> bool
+fn centre_known(d: &[u8], id: Maybe<i64>) -> bool
     requires { Lies d.now }
     ensures { result ≡ (not id.here || not (is_below id.value (lowest_of (session_at d.now)))) }
 {

@@ -18,11 +18,13 @@ pub fn bare(command: u8, id: i64) -> Message
 pub fn con_rsp(sc_eui: u64, resumed: bool, uuid: record::Sixteen) -> Message
     ensures { result ≡ con_rsp_with sc_eui resumed uuid }
 {
-    let version = message::MaybeVersion {
+    let version = message::Maybe {
         here: true,
-        major: 1,
-        minor: 0,
-        patch: 0,
+        value: message::Version {
+            major: 1,
+            minor: 0,
+            patch: 0,
+        },
     };
     let x = record::ConRsp {
         version: version,

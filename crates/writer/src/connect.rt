@@ -6,7 +6,7 @@ ghost use Rattle.writer.specs.Code.Parts.{station_parts, resume_parts, centre_pa
 
 use crate::head::{count, title};
 use crate::pair;
-use message::MaybeId;
+use message::Maybe;
 use record::{Con, ConRsp, Sixteen};
 
 pub fn con(room: &mut [u8], at: usize, op_id: i64, x: Con) -> usize
@@ -40,7 +40,13 @@ fn station(room: &mut [u8], at: usize, x: Con) -> usize
 }
 
 // What a station tells of the session that it would resume.
-fn resume(room: &mut [u8], at: usize, uuid: Sixteen, station: MaybeId, centre: MaybeId) -> usize
+fn resume(
+    room: &mut [u8],
+    at: usize,
+    uuid: Sixteen,
+    station: Maybe<i64>,
+    centre: Maybe<i64>,
+) -> usize
     ensures { ◌≡◌ {A = Put} (put room.new result) (put_parts (resume_parts uuid station centre) (put room.old at)) }
 {
     let a = pair::sixteen(room, at, b"\xA8snBsUuid", uuid);

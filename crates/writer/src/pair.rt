@@ -7,6 +7,8 @@ ghost use Rattle.forms.specs.Code.Put.{Put, put, put_parts, whole_parts, real_pa
 ghost use Rattle.record.specs.Says.{sixteen_bytes};
 ghost use Rattle.writer.specs.Code.Parts.{text, pair_part, id_part, position_part, version_part};
 
+use field::Position;
+use message::{Maybe, Version};
 use record::Sixteen;
 
 // A value as it is written behind its key.
@@ -72,7 +74,7 @@ pub fn field<V: Value>(room: &mut [u8], at: usize, here: bool, key: &[u8], x: V)
 }
 
 #[tactic(auto, using(crate::proofs::Putting::pair_id))]
-pub fn id(room: &mut [u8], at: usize, key: &[u8], x: message::MaybeId) -> usize
+pub fn id(room: &mut [u8], at: usize, key: &[u8], x: Maybe<i64>) -> usize
     ensures { ◌≡◌ {A = Put} (put room.new result) (put_parts (id_part key.now x) (put room.old at)) }
 {
     field(room, at, x.here, key, x.value)
@@ -116,7 +118,7 @@ pub fn text(room: &mut [u8], at: usize, key: &[u8], d: &[u8], n: u8) -> usize
     forms::put_text(room, next, d, n)
 }
 
-pub fn position(room: &mut [u8], at: usize, key: &[u8], x: message::MaybePosition) -> usize
+pub fn position(room: &mut [u8], at: usize, key: &[u8], x: Maybe<Position>) -> usize
     ensures { ◌≡◌ {A = Put} (put room.new result) (put_parts (position_part key.now x) (put room.old at)) }
 {
     if !x.here {
@@ -132,14 +134,14 @@ pub fn position(room: &mut [u8], at: usize, key: &[u8], x: message::MaybePositio
     )
 }
 
-pub fn version(room: &mut [u8], at: usize, key: &[u8], x: message::MaybeVersion) -> usize
+pub fn version(room: &mut [u8], at: usize, key: &[u8], x: Maybe<Version>) -> usize
     ensures { ◌≡◌ {A = Put} (put room.new result) (put_parts (version_part key.now x) (put room.old at)) }
 {
     if !x.here {
         return at;
     }
     let next = forms::put_run(room, at, key);
-    forms::put_version(room, next, x.major, x.minor, x.patch)
+    forms::put_version(room, next, x.value.major, x.value.minor, x.value.patch)
 }
 
 pub fn four(room: &mut [u8], at: usize, key: &[u8], x: u32) -> usize

@@ -15,7 +15,7 @@ pub fn det(room: &mut [u8], at: usize, op_id: i64, x: record::Det) -> usize
     let n = count(
         8,
         p.rx_duration.here,
-        p.signal.has_eq_snr,
+        p.signal.eq_snr.here,
         p.profile_len != 0,
         false,
         false,
@@ -32,7 +32,7 @@ pub fn ul_data(room: &mut [u8], at: usize, op_id: i64, x: record::UlData, d: &[u
     let n = count(
         11,
         p.rx_duration.here,
-        p.signal.has_eq_snr,
+        p.signal.eq_snr.here,
         p.profile_len != 0,
         x.format != 0,
         false,
@@ -73,7 +73,7 @@ fn signal(room: &mut [u8], at: usize, s: message::Signal) -> usize
 {
     let a = pair::field(room, at, true, b"\xA3snr", s.snr);
     let b = pair::field(room, a, true, b"\xA4rssi", s.rssi);
-    pair::field(room, b, s.has_eq_snr, b"\xA5eqSnr", s.eq_snr)
+    pair::field(room, b, s.eq_snr.here, b"\xA5eqSnr", s.eq_snr.value)
 }
 
 // A format of 0 isn't written.

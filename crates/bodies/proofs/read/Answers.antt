@@ -1,8 +1,8 @@
 -- Command, opId, and the fields behind them. Assumes nothing.
+use borrow.Author.Rules.{rules}
+use Rattle.std.proofs.Common.{rules}
 use Rattle.bodies.proofs.Whole.{read_is}
 use Rattle.bodies.proofs.read.Goals as goal
 
 pub returns : goal.returns
-returns c =
-    read_is _ _ _ _ _ _ _ _ (record { sfits = c.struct_told-1.given.1.0.1.1.1.0.1 }) c.unkept-named.ensures
-    c.id-op_id.ensures c.body_of-b.ensures
+returns c = search (read_is, rules)

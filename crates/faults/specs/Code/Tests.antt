@@ -1,11 +1,12 @@
 -- Serves the proofs only: the tests of a command's fields in their order, as the code makes them. proofs/Bodies ties them to record's Fits.
 use Rattle.std.specs.Prelude.{◌≡◌, ℕ, zero, suc, ◌+◌, ◌-◌, Bool, not, ◌&&◌, ◌||◌, List, [], ◌∷◌, Option, Some, Float}
-use lib.{Dec.eqb, Dec.leb, ListN.length, ListN.drop}
+use lib.{Dec.eqb, Dec.leb, IntN.ℤ, ListN.length, ListN.drop}
 use Rattle.std.specs.Float.{binary32}
 use Rattle.std.specs.Float.Ieee.{fits as holds}
 use Rattle.octets.specs.{Choice.either, Pieces.pieces_place, Pieces.lengths_lent}
 use Rattle.field.specs.Judge.{in_range}
-use Rattle.message.specs.declared.{MaybeWord.MaybeWord, MaybeId.MaybeId, MaybeMark.MaybeMark, MaybePosition.MaybePosition, MaybeVersion.MaybeVersion}
+use Rattle.field.specs.declared.Position.{Position}
+use Rattle.message.specs.declared.{Maybe.Maybe, Version.Version}
 use Rattle.record.specs.declared.{Sixteen.Sixteen, Con.Con, ConRsp.ConRsp, StatusRsp.StatusRsp, Packet.Packet, UlData.UlData, DlDataQue.DlDataQue, Body.Body}
 use Rattle.saying.specs.Says.{is_zero, no_bits, no_position, are_nulls}
 use Rattle.saying.specs.Fits.{is_real, is_position}
@@ -16,27 +17,27 @@ unfoldable pub is_single : Float → Bool
 is_single x = is_real x && holds binary32 x
 
 -- what may be absent is zero then
-unfoldable pub real_fits : Bool → Float → Bool
-real_fits here x = either here (λ _. is_real x) (λ _. no_bits x)
+unfoldable pub real_fits : Maybe Float → Bool
+real_fits x = either x.here (λ _. is_real x.value) (λ _. no_bits x.value)
 
-unfoldable pub position_fits : MaybePosition → Bool
+unfoldable pub position_fits : Maybe Position → Bool
 position_fits x = either x.here (λ _. is_position x.value) (λ _. no_position x.value)
 
 -- an operation's number: of the station from 0 on, of the centre up to 0
-unfoldable pub station_id_fits : MaybeId → Bool
+unfoldable pub station_id_fits : Maybe ℤ → Bool
 station_id_fits x = either x.here (λ _. in_range 0 0x7FFFFFFFFFFFFFFF x.value) (λ _. is_zero x.value)
 
-unfoldable pub centre_id_fits : MaybeId → Bool
+unfoldable pub centre_id_fits : Maybe ℤ → Bool
 centre_id_fits x = either x.here (λ _. in_range 0x8000000000000000 0 x.value) (λ _. is_zero x.value)
 
-abbrev pub word_fits : MaybeWord → Bool
+abbrev pub word_fits : Maybe ℕ → Bool
 word_fits x = x.here || eqb x.value 0
 
-abbrev pub mark_fits : MaybeMark → Bool
+abbrev pub mark_fits : Maybe Bool → Bool
 mark_fits x = x.here || not x.value
 
-abbrev pub version_fits : MaybeVersion → Bool
-version_fits x = x.here || (eqb x.major 0 && (eqb x.minor 0 && eqb x.patch 0))
+abbrev pub version_fits : Maybe Version → Bool
+version_fits x = x.here || (eqb x.value.major 0 && (eqb x.value.minor 0 && eqb x.value.patch 0))
 
 -- at most sixteen bytes; those behind the first n are zeros
 unfoldable pub tail_fits : Sixteen → ℕ → Bool
@@ -85,16 +86,16 @@ status_fault x lent =
     (fault_unless (is_real x.duty_cycle) 6
     (fault_unless (position_fits x.geo_location) 7
     (fault_unless (word_fits x.uptime) 8
-    (fault_unless (real_fits x.temp.here x.temp.value) 9
-    (fault_unless (real_fits x.cpu_load.here x.cpu_load.value) 10
-    (fault_unless (real_fits x.mem_load.here x.mem_load.value) 11 0))))))
+    (fault_unless (real_fits x.temp) 9
+    (fault_unless (real_fits x.cpu_load) 10
+    (fault_unless (real_fits x.mem_load) 11 0))))))
 
 abbrev pub packet_fault : Packet → ℕ
 packet_fault p =
     fault_unless (word_fits p.rx_duration) 5
     (fault_unless (is_real p.signal.snr) 7
     (fault_unless (is_real p.signal.rssi) 8
-    (fault_unless (real_fits p.signal.has_eq_snr p.signal.eq_snr) 9
+    (fault_unless (real_fits p.signal.eq_snr) 9
     (fault_unless (tail_fits p.profile p.profile_len) 10 0))))
 
 abbrev pub ul_data_fault : UlData → ℕ → ℕ

@@ -1,10 +1,5 @@
-use borrow.Author.Rules.{rules}
-use Rattle.field.proofs.Strings.{texts_into}
-use Rattle.std.proofs.Common.{rules}
+use Rattle.field.proofs.Strings.{text_there}
 use Rattle.field.proofs.text_into.Goals as goal
 
-pub returns-then-t : goal.returns-then-t
-returns-then-t c = search (texts_into, rules)
-
-pub returns-else-t : goal.returns-else-t
-returns-else-t c = search (texts_into, rules)
+pub returns-in-Some : goal.returns-in-Some
+returns-in-Some c = text_there _ _ _ c.text_at.ensures _ _ c.in-Some.is _ c.copy.ensures

@@ -1,6 +1,8 @@
 -- For the private readers: where the bytes or parts of an element stand. No statement of a public function rests on this page.
-use mathlib.Core.{Path.◌≡◌, Bool.Bool, Bool.true, Bool.false, List.List, Option.Option, Option.some, Option.none}
-use Rattle.std.specs.Prelude.{ℕ, ◌+◌, ◌-◌, ◌≤◌, leb, ltb, length, get_or, take, drop}
+use mathlib.Core.{Path.◌≡◌, Bool.Bool, Bool.true, Bool.false, List.List}
+use mathlib.Core.Option as maybe
+use Rattle.std.specs.Prelude.{ℕ, ◌+◌, ◌-◌, ◌≤◌, leb, ltb, length, get_or, take, drop, Option, Some, None}
+use Rattle.std.specs.Option.{ForSome}
 use Rattle.octets.specs.Choice.{either}
 use Rattle.element.specs.declared.Shape.{Shape, TheVariants.Never, TheVariants.Plain, TheVariants.Text, TheVariants.Array, TheVariants.Map}
 use Rattle.element.specs.declared.Head.{Head}
@@ -34,32 +36,26 @@ is_array Text = false
 is_array Array = true
 is_array Map = false
 
-abbrev pub nowhere : Extent
-nowhere = record { there = false; from = 0; size = 0 }
-
 -- n bytes from a place on, where they are within len
-unfoldable pub part_from : ℕ → ℕ → ℕ → Extent
-part_from len from n = either (leb n (len - from)) (λ _. record { there = true; from = from; size = n }) (λ _. nowhere)
-
-abbrev pub bytes_by : Bool → List ℕ → Option (List ℕ)
-bytes_by true d = some d
-bytes_by false d = none
+unfoldable pub part_from : ℕ → ℕ → ℕ → Option Extent
+part_from len from n = either (leb n (len - from)) (λ _. Some (record { from = from; size = n })) (λ _. None)
 
 -- the bytes of a part that is there
-abbrev pub part_bytes : List ℕ → Extent → Option (List ℕ)
-part_bytes s r = bytes_by r.there (take r.size (drop r.from s))
+abbrev pub part_bytes : List ℕ → Option Extent → maybe.Option (List ℕ)
+part_bytes s None = maybe.none
+part_bytes s (Some e) = maybe.some (take e.size (drop e.from s))
 
 -- r is where the bytes of the text at a place stand, if one is there
-pub record Bears (s : List ℕ) (at : ℕ) (r : Extent) : Type 0 where
+pub record Bears (s : List ℕ) (at : ℕ) (r : Option Extent) : Type 0 where
   pub is : text_of (shallow_at s at) ≡ part_bytes s r
-  pub within : r.from + r.size ≤ length s
+  pub within : ForSome r (λ e. e.from + e.size ≤ length s)
 
-abbrev pub parts_by : Bool → Elements → Option Elements
-parts_by true es = some es
-parts_by false es = none
+abbrev pub parts_in : List ℕ → Option Extent → maybe.Option Elements
+parts_in s None = maybe.none
+parts_in s (Some e) = maybe.some (leaves_from s e.size e.from)
 
 -- r is where the parts of the array at a place stand, if one is there
-pub record Lists (s : List ℕ) (at : ℕ) (r : Extent) : Type 0 where
-  pub is : parts_of (shallow_at s at) ≡ parts_by r.there (leaves_from s r.size r.from)
-  pub span : r.there ≡ true → span_of s at ≡ Holds r.from r.size false
-  pub within : r.from ≤ length s
+pub record Lists (s : List ℕ) (at : ℕ) (r : Option Extent) : Type 0 where
+  pub is : parts_of (shallow_at s at) ≡ parts_in s r
+  pub span : ForSome r (λ e. span_of s at ≡ Holds e.from e.size false)
+  pub within : ForSome r (λ e. e.from ≤ length s)

@@ -1,20 +1,15 @@
--- A cell as the code hands it on: how it stands, and its value, zeros where it has none.
-use Rattle.std.specs.Prelude.{ℕ}
-use Rattle.field.specs.declared.{Judged.Judged, Located.Located, Released.Released}
-use Rattle.field.specs.Cell.{Cell, value_in, word_of, figure_of, position_of, number_in}
+-- A cell as the code hands it on: what is made of its value, or why it has none.
+use Rattle.std.specs.Prelude.{Result, Ok, Err}
+use Rattle.field.specs.declared.Flaw.{Flaw, TheVariants.Invalid, TheVariants.Missing, TheVariants.Twice}
+use Rattle.field.specs.{Kind.Value, Cell.Cell}
 
--- 0 good, 1 invalid (15), 2 missing (14), 3 a key twice (13)
-abbrev pub cell_state : Cell → ℕ
-cell_state Cell.missing = 2
-cell_state Cell.double = 3
-cell_state Cell.bad = 1
-cell_state (Cell.good v) = 0
+-- document 01's 15, 14 and 13
+abbrev pub told_of : {A : Type 0} → (Value → A) → Cell → Result A Flaw
+told_of f Cell.missing = Err Missing
+told_of f Cell.double = Err Twice
+told_of f Cell.bad = Err Invalid
+told_of f (Cell.good v) = Ok (f v)
 
-abbrev pub told_of : Cell → Judged
-told_of c = record { state = cell_state c; word = word_of (value_in c); figure = figure_of (value_in c) }
-
-abbrev pub located_of : Cell → Located
-located_of c = record { state = cell_state c; position = position_of (value_in c) }
-
-abbrev pub released_of : Cell → Released
-released_of c = record { state = cell_state c; major = number_in 0 c; minor = number_in 1 c; patch = number_in 2 c }
+-- of a field that is not kept, that it is there
+abbrev pub unkept : Value → Unit {0}
+unkept v = tt

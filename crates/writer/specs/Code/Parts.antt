@@ -5,7 +5,8 @@ use lib.{Dec.eqb, IntN.ℤ, IntN.pos, Ieee.Float, ListN.length, ListN.take}
 use Rattle.octets.specs.{Choice.either, Bytes.big_bytes, Bytes.little_bytes, Pieces.counters_lent, Pieces.pieces_lent, Pieces.are_lent, Code.Put.put_number}
 use Rattle.forms.specs.Code.Put.{map_parts, whole_parts, real_parts, mark_parts, text_parts, numbers_parts, pieces_parts, position_parts, version_parts}
 use Rattle.names.specs.Names.{bytes, commands, name_at}
-use Rattle.message.specs.declared.{MaybeId.MaybeId, MaybeMark.MaybeMark, MaybePosition.MaybePosition, MaybeVersion.MaybeVersion, Signal.Signal}
+use Rattle.field.specs.declared.Position.{Position}
+use Rattle.message.specs.declared.{Maybe.Maybe, Version.Version, Signal.Signal}
 use Rattle.saying.specs.Says.{no_bits}
 use Rattle.record.specs.{Record.command_in, Says.sixteen_bytes}
 use Rattle.record.specs.declared.{Sixteen.Sixteen, Con.Con, ConRsp.ConRsp, StatusRsp.StatusRsp, Packet.Packet, DlDataQue.DlDataQue, Body.Body}
@@ -26,14 +27,14 @@ chained (ps ∷ pss) = ps ++ chained pss
 unfoldable pub pair_part : Bool → List ℕ → List (List ℕ) → List (List ℕ)
 pair_part here key ps = either here (λ _. key ∷ ps) (λ _. [])
 
-abbrev pub id_part : List ℕ → MaybeId → List (List ℕ)
+abbrev pub id_part : List ℕ → Maybe ℤ → List (List ℕ)
 id_part key w = pair_part w.here key (whole_parts w.value)
 
-abbrev pub position_part : List ℕ → MaybePosition → List (List ℕ)
+abbrev pub position_part : List ℕ → Maybe Position → List (List ℕ)
 position_part key p = pair_part p.here key (position_parts p.value.latitude p.value.longitude p.value.altitude)
 
-abbrev pub version_part : List ℕ → MaybeVersion → List (List ℕ)
-version_part key w = pair_part w.here key (version_parts w.major w.minor w.patch)
+abbrev pub version_part : List ℕ → Maybe Version → List (List ℕ)
+version_part key w = pair_part w.here key (version_parts w.value.major w.value.minor w.value.patch)
 
 abbrev pub one_if : Bool → ℕ
 one_if b = either b (λ _. 1) (λ _. 0)
@@ -56,7 +57,7 @@ station_parts x =
     position_part (text "geoLocation") x.geo_location ∷
     [])
 
-unfoldable pub resume_parts : Sixteen → MaybeId → MaybeId → List (List ℕ)
+unfoldable pub resume_parts : Sixteen → Maybe ℤ → Maybe ℤ → List (List ℕ)
 resume_parts uuid station centre =
     chained
     (pair_part true (text "snBsUuid") (numbers_parts (sixteen_bytes uuid)) ∷
@@ -116,7 +117,7 @@ signal_parts s =
     chained
     (pair_part true (text "snr") (real_parts s.snr) ∷
     pair_part true (text "rssi") (real_parts s.rssi) ∷
-    pair_part s.has_eq_snr (text "eqSnr") (real_parts s.eq_snr) ∷
+    pair_part s.eq_snr.here (text "eqSnr") (real_parts s.eq_snr.value) ∷
     [])
 
 abbrev pub profile_parts : Packet → List (List ℕ)
@@ -126,7 +127,7 @@ unfoldable pub packet_parts : Packet → List (List ℕ)
 packet_parts p = chained (times_parts p ∷ signal_parts p.signal ∷ profile_parts p ∷ [])
 
 abbrev pub packet_count : ℕ → Packet → Bool → ℕ
-packet_count always p more = pairs_present always p.rx_duration.here p.signal.has_eq_snr (not (eqb p.profile_len 0)) more false
+packet_count always p more = pairs_present always p.rx_duration.here p.signal.eq_snr.here (not (eqb p.profile_len 0)) more false
 
 unfoldable pub answer_parts : ℕ → Bool → Bool → Bool → List (List ℕ)
 answer_parts format window expected ack =
@@ -181,7 +182,7 @@ weight_parts format prior prio =
     pair_part prior (text "prio") (real_parts prio) ∷
     [])
 
-abbrev pub mark_part : List ℕ → MaybeMark → List (List ℕ)
+abbrev pub mark_part : List ℕ → Maybe Bool → List (List ℕ)
 mark_part key w = pair_part w.here key (mark_parts w.value)
 
 unfoldable pub wishes_parts : DlDataQue → List (List ℕ)

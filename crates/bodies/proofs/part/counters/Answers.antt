@@ -1,7 +1,5 @@
-use borrow.Author.Rules.{rules}
-use Rattle.bodies.proofs.Parts.{parts}
-use Rattle.std.proofs.Common.{rules}
+use Rattle.bodies.proofs.Readers.{parts_told}
 use Rattle.bodies.proofs.part.counters.Goals as goal
 
 pub returns : goal.returns
-returns c = search (parts, rules)
+returns c = parts_told _ _ _ _ _ _ c.passed.ensures _ c.counters_cell-told.ensures c.err-flaw.ensures.value _ c.unwrap_or.ensures

@@ -1,7 +1,5 @@
-use borrow.Author.Rules.{rules}
-use Rattle.bodies.proofs.Bytes.{strings}
-use Rattle.std.proofs.Common.{rules}
+use Rattle.bodies.proofs.Bytes.{four_is}
 use Rattle.bodies.proofs.part.four.Goals as goal
 
 pub returns : goal.returns
-returns c = search (strings, rules)
+returns c = four_is _ _ _ _ _ _ _ _ c.passed.ensures c.octets_read-told.ensures.told c.exact-flaw.ensures c.octets_read-told.ensures.room _ c.is_none.ensures _ c.quarter.ensures

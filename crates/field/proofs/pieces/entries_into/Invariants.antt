@@ -1,10 +1,6 @@
 -- The invariant: i entries are put, and those that are left stand from q on; i rises to n, so n - i falls. Assumes nothing.
-use Prim.Native.Nat.{◌-◌}
 use Rattle.field.proofs.PutEntries.{EntriesLeft}
 use Rattle.field.proofs.pieces.entries_into.Given as goal
 
 abbrev pub invariant-loop-i : goal.invariant-loop-i
 invariant-loop-i l = EntriesLeft l.s l.n l.from l.initial.out l.out l.q l.at l.i
-
-abbrev pub decreases-loop-i : goal.decreases-loop-i
-decreases-loop-i l = l.n - l.i

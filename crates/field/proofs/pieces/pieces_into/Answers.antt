@@ -1,13 +1,8 @@
-use borrow.Author.Rules.{rules}
-use Rattle.field.proofs.Downlinks.{entries_told_in}
-use Rattle.std.proofs.Common.{rules}
+use Rattle.field.proofs.Downlinks.{entries_there, entries_put_lem}
 use Rattle.field.proofs.pieces.pieces_into.Goals as goal
 
 pub entries_into-requires : goal.entries_into-requires
-entries_into-requires c = search (entries_told_in, rules)
+entries_into-requires c = (entries_there _ _ _ c.requires.0 _ c.array_at.ensures c.if-n-gt0.true _ c.in-Some.is, c.requires.1)
 
-pub returns-then-n-gt0 : goal.returns-then-n-gt0
-returns-then-n-gt0 c = search (entries_told_in, rules)
-
-pub returns-else-n-gt0 : goal.returns-else-n-gt0
-returns-else-n-gt0 c = search (entries_told_in, rules)
+pub returns-in-Some : goal.returns-in-Some
+returns-in-Some c = entries_put_lem _ _ _ c.requires.0 _ c.array_at.ensures c.if-n-gt0.true _ c.in-Some.is _ _ c.entries_into.ensures

@@ -1,13 +1,6 @@
-use borrow.Author.Rules.{rules}
-use Rattle.field.proofs.Feeding.{scans}
-use Rattle.std.proofs.Common.{rules}
+use native.Mathlib.Omega.{arith}
+use Rattle.field.proofs.Feeding.{scan_on}
 use Rattle.field.proofs.version.scanned.Goals as goal
 
 pub loop-i-preserved : goal.loop-i-preserved
-loop-i-preserved c = search (scans, rules)
-
-pub returns-in-Off : goal.returns-in-Off
-returns-in-Off c = search (scans, rules)
-
-pub returns : goal.returns
-returns c = search (scans, rules)
+loop-i-preserved c = (omega arith, scan_on _ _ _ _ _ _ c.loop-i.invariant.1 c.requires c.loop-i-test.true _ c.fed.ensures _ c.in_ok-v.was)

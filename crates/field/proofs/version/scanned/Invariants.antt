@@ -9,6 +9,3 @@ use Rattle.field.proofs.version.scanned.Given as goal
 abbrev pub invariant-loop-i : goal.invariant-loop-i
 invariant-loop-i l =
     (l.i ≤ l.n) × (fed_all l.v (take (l.n - l.i) (drop (l.from + l.i) l.s)) ≡ fed_all unfed (take l.n (drop l.from l.s)))
-
-abbrev pub decreases-loop-i : goal.decreases-loop-i
-decreases-loop-i l = l.n - l.i

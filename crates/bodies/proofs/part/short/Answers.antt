@@ -1,7 +1,0 @@
-use borrow.Author.Rules.{rules}
-use Rattle.bodies.proofs.Parts.{parts}
-use Rattle.std.proofs.Common.{rules}
-use Rattle.bodies.proofs.part.short.Goals as goal
-
-pub returns : goal.returns
-returns c = search (parts, rules)
