@@ -11,5 +11,6 @@ pub mod RoundTrip
 pub mod Made
 pub mod Built
 pub mod Read
+pub mod Refusals
 pub mod Answers
 pub mod Downlinks
