@@ -10,16 +10,16 @@ pub const VALUE: usize = 22;
 
 // P with the value that a text says in hex, and a zero behind it; none where the text is not that, or the room too small.
 pub fn with_value<'a>(room: &'a mut [u8], hex: &[u8]) -> Option<&'a [u8]> {
-    let n = hex.len() / 2;
-    if hex.is_empty() || hex.len() % 2 != 0 || room.len() <= VALUE + n {
+    if hex.is_empty() || hex.len() % 2 != 0 {
         return None;
     }
-    room[..VALUE].copy_from_slice(&START);
-    for (to, pair) in room[VALUE..].iter_mut().zip(hex.chunks_exact(2)) {
+    let longer = room.get_mut(..VALUE + hex.len() / 2 + 1)?;
+    longer.fill(0);
+    *longer.first_chunk_mut::<VALUE>()? = START;
+    for (to, pair) in longer[VALUE..].iter_mut().zip(hex.chunks_exact(2)) {
         *to = u8::try_from(text::number_of(pair, 16)?).ok()?;
     }
-    room[VALUE + n] = 0;
-    Some(&room[..=VALUE + n])
+    Some(longer)
 }
 
 // Whether the walk over a payload finds it whole with so many elements.

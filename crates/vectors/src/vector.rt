@@ -3,6 +3,7 @@ use crate::payload::VALUE;
 use crate::{payload, text};
 use number::Number;
 use refusal::Refusal;
+use std::fmt::Display;
 use std::io;
 
 // How many lines, cuts and numbers were tried, and how many answers were wrong.
@@ -43,7 +44,7 @@ impl Value {
 // The words behind the bytes.
 fn read(s: &[u8]) -> Option<Said> {
     let elements = text::number_of(text::word(s, 1), 10)?;
-    let value = value(text::word(s, 2), text::word(s, 3))?;
+    let value = value_of(text::word(s, 2), text::word(s, 3))?;
     if !text::word(s, 4).is_empty() {
         return None;
     }
@@ -54,7 +55,7 @@ fn read(s: &[u8]) -> Option<Said> {
 }
 
 // A value of a kind: i, f, k or -.
-fn value(kind: &[u8], v: &[u8]) -> Option<Value> {
+fn value_of(kind: &[u8], v: &[u8]) -> Option<Value> {
     match kind {
         b"i" => match v.strip_prefix(b"-") {
             Some(x) => integer(true, x),
@@ -100,7 +101,13 @@ impl Tally {
     }
 
     // A wrong answer is counted, and printed with the line's number and what was expected.
-    fn judge(&mut self, rt: &impl Print, right: bool, expected: &str, x: u64) -> io::Result<()> {
+    fn judge<D: Display + Drop>(
+        &mut self,
+        rt: &impl Print,
+        right: bool,
+        expected: &str,
+        x: D,
+    ) -> io::Result<()> {
         if right {
             return Ok(());
         }
