@@ -53,6 +53,7 @@ pub fn no_bits(x: f64) -> bool
     f64::to_bits(x) == 0
 }
 
+// Of the fields that may be absent each sort has its own two tests: one function over them would be lent both at each call, and be no plainer.
 pub fn maybe_real(x: Maybe<f64>) -> bool
     ensures { result ≡ real_fits x }
 {

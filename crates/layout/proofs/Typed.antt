@@ -3,7 +3,7 @@
 use mathlib.Core.{Path.◌≡◌, Path.ap, Path.◌∙◌, Bool.true}
 use mathlib.Core.List.{List, [], ◌∷◌, ◌++◌}
 use Prim.Native.Nat.{ℕ, ◌^◌, ◌<◌}
-use lib.{Dec.lit<, Ieee.fits, Ieee.binary64, ListN.length, Signed.mag}
+use lib.{Dec.lit<, Ieee.fits, Ieee.binary64, ListN.length}
 use mir.Val.{Val}
 use denote.Laws.{Is}
 use denote.Struct.Declared.{row}

@@ -197,7 +197,7 @@ module _ (z : ℤ) (d : List ℕ) where
   PacketFits p = (x : List Stretch) → AllLie x → AllLie (packet_lies p ++ x)
 
   packet_lies_lem : (p : Packet) → T (leb p.ep_eui 0xFFFFFFFFFFFFFFFF) → T (leb p.rx_time 0xFFFFFFFFFFFFFFFF) → p.rx_duration.value ≤ 0xFFFFFFFFFFFFFFFF
-      → T (leb p.packet_cnt 0xFFFFFFFF) → T (is_real p.signal.snr) → T (is_real p.signal.rssi) → holds binary64 p.signal.eq_snr ≡ true
+      → T (leb p.packet_cnt 0xFFFFFFFF) → T (is_real p.signal.snr) → T (is_real p.signal.rssi) → holds binary64 p.signal.eq_snr.value ≡ true
       → p.profile_len < 256 ^ 1 → Wide p.profile → PacketFits p
   unfolding packet_lies
   packet_lies_lem p eui time long count snr rssi eq len wide x rest =

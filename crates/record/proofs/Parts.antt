@@ -1,7 +1,7 @@
 -- The parts that this record has beside saying's are read back as they were, from the cell that is shown for them: lent bytes, a version, and a part
 -- that must pass a test besides. Assumes nothing.
 use mathlib.Core.Path.{◌≡◌, refl, sym, ◌∙◌}
-use mathlib.Core.Bool.{Bool, true, false, ◌&&◌}
+use mathlib.Core.Bool.{Bool, ◌&&◌}
 use mathlib.Core.{List.List, Option.none}
 use Prim.Native.Nat.{ℕ}
 use lib.Dec.{T, eqb, leb, eqb→eq, leb→le}

@@ -10,7 +10,7 @@ use lib.Ieee.Fits.{and_i}
 use Rattle.octets.specs.Choice.{either}
 use Rattle.octets.proofs.Ranges.{true_is}
 use Rattle.field.specs.Kind.{Kind, Value}
-use Rattle.field.specs.Cell.{Cell, zero64, here, origin}
+use Rattle.field.specs.Cell.{Cell, zero64, origin}
 use Rattle.message.specs.Record.{word_in, figure_in, id_in, mark_in, position_in, maybe_of}
 use Rattle.saying.specs.Says as Says
 use Rattle.saying.specs.Says.{Part, no_bits, no_position, word, id, mark, real, real_if, mark_if, position_if, unless_zero, unless_plus_zero}

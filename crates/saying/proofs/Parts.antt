@@ -14,7 +14,7 @@ use Rattle.octets.proofs.{Ranges.both_left, Ranges.both_right, Ranges.is_true, T
 use Rattle.names.proofs.Same.{same_eq}
 use Rattle.field.specs.declared.Position.{Position}
 use Rattle.field.specs.Kind.{Kind, Value}
-use Rattle.field.specs.Cell.{Cell, zero64, value_in, here, origin}
+use Rattle.field.specs.Cell.{Cell, zero64, value_in, origin}
 use Rattle.message.specs.Record.{word_in, figure_in, id_in, mark_in, position_in, string_of, maybe_of}
 use Rattle.message.specs.declared.Maybe.{Maybe}
 use Rattle.saying.specs.Says as Says
