@@ -108,12 +108,12 @@ module _ (s : List ℕ) (n from to : ℕ) where
       (octet (get_or s (from + i) 0) (from + i + 1)) refl l)
 
 -- the room that is left
-module _ (s : List ℕ) (n from to : ℕ) (room out mid : List ℕ) (q i p j : ℕ) (a : put_at mid (to + j) (leading_from s (n - j) p) ≡ put_at room to (leading_from s n from)) (b : put_at out (to + i) (leading_from s (n - i) q) ≡ put_at mid (to + j) (leading_from s (n - j) p)) where
-  pub lead_end : n ≤ i → out ≡ put_at room to (leading_from s n from)
-  lead_end h = lead_done s n to (put_at room to (leading_from s n from)) out q i (b ∙ a) h
+module _ (s : List ℕ) (n to : ℕ) (whole out : List ℕ) (q i : ℕ) (g : put_at out (to + i) (leading_from s (n - i) q) ≡ whole) where
+  pub lead_end : n ≤ i → out ≡ whole
+  lead_end h = lead_done s n to whole out q i g h
 
-  pub lead_stop : (x : Answer Octet) → i < n → x ≡ octet_at s q → x ≡ None → out ≡ put_at room to (leading_from s n from)
-  lead_stop x h e y = lead_unfit s n to (put_at room to (leading_from s n from)) out q i (b ∙ a) x h e y
+  pub lead_stop : (x : Answer Octet) → i < n → x ≡ octet_at s q → x ≡ None → out ≡ whole
+  lead_stop x h e y = lead_unfit s n to whole out q i g x h e y
 
 -- what is said at the end
 module _ (s : List ℕ) (n from q i : ℕ) (g : octets_end s (n - i) q ≡ octets_end s n from) where

@@ -79,47 +79,23 @@ pub fn number_end(s: &[u8], at: usize) -> usize
 fn is_body(h: Shape) -> bool
     ensures { result ≡ is_body h }
 {
-    match h {
-        Shape::Never => false,
-        Shape::Plain => true,
-        Shape::Text => true,
-        Shape::Array => false,
-        Shape::Map => false,
-    }
+    matches!(h, Shape::Plain | Shape::Text)
 }
 
 pub fn is_text(h: Shape) -> bool
     ensures { result ≡ is_text h }
 {
-    match h {
-        Shape::Never => false,
-        Shape::Plain => false,
-        Shape::Text => true,
-        Shape::Array => false,
-        Shape::Map => false,
-    }
+    matches!(h, Shape::Text)
 }
 
 pub fn is_array(h: Shape) -> bool
     ensures { result ≡ is_array h }
 {
-    match h {
-        Shape::Never => false,
-        Shape::Plain => false,
-        Shape::Text => false,
-        Shape::Array => true,
-        Shape::Map => false,
-    }
+    matches!(h, Shape::Array)
 }
 
 pub fn is_map(h: Shape) -> bool
     ensures { result ≡ is_map h }
 {
-    match h {
-        Shape::Never => false,
-        Shape::Plain => false,
-        Shape::Text => false,
-        Shape::Array => false,
-        Shape::Map => true,
-    }
+    matches!(h, Shape::Map)
 }

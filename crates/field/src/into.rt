@@ -38,17 +38,14 @@ fn parts_into(s: &[u8], from: usize, n: usize, out: &mut [u8], to: usize) -> Opt
     ensures room { out.new ≡ put_at out.old to (leading_from s.now n from) }
 {
     let run = array::low_run(s, from, n);
-    let mut i: usize = 0;
-    while i < run {
+    for i in 0..run {
         out[to + i] = s[from + i];
-        i += 1;
     }
-    let mut q = from + i;
-    while i < n {
+    let mut q = from + run;
+    for i in run..n {
         let part = part_at(s, q)?;
         out[to + i] = part.value;
         q = part.next;
-        i += 1;
     }
     Some(Piece { size: n, next: q })
 }

@@ -40,13 +40,8 @@ pub fn copy(s: &[u8], from: usize, n: usize, out: &mut [u8])
     requires { from + n ≤ length s.now }
     ensures { out.new ≡ put_at out.old 0 (take n (drop from s.now)) }
 {
-    if out.len() < n {
-        return;
-    }
-    let mut i: usize = 0;
-    while i < n {
-        out[i] = s[from + i];
-        i += 1;
+    if n <= out.len() {
+        out[..n].copy_from_slice(&s[from..from + n]);
     }
 }
 
