@@ -53,7 +53,7 @@ struct Marks {
 // A fault of rank 1 (invalid), 2 (missing) or 3 (twice) counts for more than any place.
 pub const RANK: u16 = 64;
 
-// The gravest fault of a command's fields, and the record.
+// The gravest fault of a command's fields, and the record. Its definition `Read` names both, so it is no `Held<Message>`.
 #[derive(Clone, Copy)]
 pub struct Graded {
     pub worst: u16,

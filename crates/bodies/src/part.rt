@@ -106,7 +106,8 @@ pub fn word(s: &[u8], p: u16, must: bool, i: u8, worst: u16) -> Held<Maybe<u64>>
     }
 }
 
-// A natural number of at most `most`, 0 where it is absent: what counters, short addresses and formats are, each at its width.
+// A natural number of at most `most`, 0 where it is absent: what counters, short addresses and formats are, each at its width. One function over the width
+// would know of the width only what `TryFrom` says, and need a trait with its laws for four lines: no plainer.
 #[tactic(auto, using(crate::proofs::Readers::withins))]
 fn natural(s: &[u8], p: u16, most: u64, must: bool, i: u8, worst: u16) -> Held<u64>
     requires { i < 64 }

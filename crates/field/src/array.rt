@@ -50,7 +50,8 @@ fn long_array(s: &[u8], at: usize) -> Option<Extent>
     }
 }
 
-// How many of n parts from a place on, by eights, are numbers of one byte. Arrays often begin with many.
+// How many of n parts from a place on, by eights, are numbers of one byte. Arrays often begin with many. The first eight that are not end the loop: no count of
+// turns, so a `for` would be no plainer.
 #[tactic(auto, using(crate::proofs::Runs::runs))]
 pub fn low_run(s: &[u8], from: usize, n: usize) -> usize
     ensures { LowRun s.now from n result }

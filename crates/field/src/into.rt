@@ -38,6 +38,7 @@ fn parts_into(s: &[u8], from: usize, n: usize, out: &mut [u8], to: usize) -> Opt
     ensures room { out.new ≡ put_at out.old to (leading_from s.now n from) }
 {
     let run = array::low_run(s, from, n);
+    // Byte by byte: `copy_from_slice` of a part would ask that the array begins within the bytes, which no run of none tells.
     for i in 0..run {
         out[to + i] = s[from + i];
     }

@@ -30,7 +30,7 @@ fn released(v: Release) -> Option<Released>
     }
 }
 
-// The n bytes from a place on, one after the other.
+// The n bytes from a place on, one after the other. A `for` over the part was tried: its proof wants laws of the part that the ones of `fed_all` do not give.
 #[tactic(auto, using(crate::proofs::Feeding::scans))]
 fn scanned(s: &[u8], from: usize, n: usize) -> Option<Release>
     requires { from + n ≤ length s.now }

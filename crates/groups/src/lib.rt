@@ -29,6 +29,7 @@ pub fn number_at(s: &[u8], at: usize) -> Result<Number, Refusal>
     group_at(s, at, MORE)
 }
 
+// It calls itself as the definition `groups_at` does, since the last group decides first; a loop would need a second pass.
 #[tactic(auto, using(crate::proofs::Reading::groups))]
 fn group_at(s: &[u8], at: usize, more: u8) -> Result<Number, Refusal>
     requires { more ≤ 9 }

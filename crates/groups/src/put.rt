@@ -12,6 +12,7 @@ pub fn put_number(room: &mut [u8], at: usize, n: u64) -> usize
     put_groups(room, at, MOST, n)
 }
 
+// It calls itself as the definition `group_parts` does; a loop would carry room, place and rest along.
 #[tactic(auto, using(crate::proofs::Writing::writes))]
 fn put_groups(room: &mut [u8], at: usize, most: u8, n: u64) -> usize
     ensures { ◌≡◌ {A = Put} (put room.new result) (put_parts (group_parts most n) (put room.old at)) }

@@ -1,3 +1,5 @@
+// Places are compared and reckoned with (`bodies` grades faults by them, `faults` answers one more than the first), so an enum would be no plainer.
+//
 // Where each field stands in its command's list, from 0.
 // Every command's.
 pub const COMMAND: u8 = 0;

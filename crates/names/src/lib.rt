@@ -12,7 +12,7 @@ pub mod slots;
 
 use octets::big_at;
 
-// The key's slot; 55 for a key of no command.
+// The key's slot; 55 for a key of no command: `notes` has a place for such keys too, so that no pair of the outer map is a case apart, as an Option would make it.
 pub fn slot_of(key: &[u8]) -> usize
     ensures is { result ≡ slot_of key.now }
     ensures small { result ≤ 55 }
@@ -33,7 +33,7 @@ pub fn slot_of(key: &[u8]) -> usize
     }
 }
 
-// The command's number; 24 for a name of no command.
+// The command's number; 24 for a name of no command: the definition `command_of`, by which session's and live's definitions name their commands, is that number.
 pub fn command_of(name: &[u8]) -> u8
     ensures is { result ≡ command_of name.now }
     ensures small { result ≤ 24 }

@@ -1,3 +1,6 @@
+// They are numbers and no enum: a record that C hands in may name any byte as its command (`record::Body::Bare`), which the definition `fault_in` refuses with 15;
+// an enum has no place for it.
+//
 // The number of each command: its place in document 01's list; those of document 02's Q-2 stand behind them, so that no number moved.
 pub const CON: u8 = 0;
 

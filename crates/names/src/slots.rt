@@ -1,3 +1,5 @@
+// Slots are indices into `notes::Noted::places`: an enum would be turned into its number at each of their uses, so it would be no plainer.
+//
 // The slot of each key: its place among the keys of documents 01 and 02.
 pub const COMMAND: usize = 0;
 

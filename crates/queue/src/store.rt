@@ -96,7 +96,7 @@ fn or_behind(passes: bool, i: usize, rest: usize) -> usize
     if passes { i } else { rest }
 }
 
-// The first place of a counter among n that are lent; n where it is none of them.
+// The first place of a counter among n that are lent; n where it is none of them: the definition `place_of`, which `piece_for` goes on from, is that number.
 #[tactic(auto, using(crate::proofs::Lents::counters))]
 fn place_of(d: &[u8], n: usize, k: u32) -> usize
     requires { (n ≤ 255) × (length d.now ≡ 880) }

@@ -73,7 +73,7 @@ fn octet_end(s: &[u8], at: usize) -> Option<usize>
     }
 }
 
-// Many arrays begin with bytes below 0x80: these go by eights, until eight are not low.
+// Many arrays begin with bytes below 0x80: these go by eights, until eight are not low. No count ends the loop, so a `for` would be no plainer.
 fn eights(s: &[u8], at: usize, n: usize) -> Passed
     ensures { Passes s.now n at result.at result.parts }
 {
