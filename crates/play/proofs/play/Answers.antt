@@ -3,11 +3,11 @@ use Rattle.play.proofs.Playing.{playing}
 use Rattle.std.proofs.Common.{rules}
 use Rattle.play.proofs.play.Goals as goal
 
-pub returns-then-told-ne0 : goal.returns-then-told-ne0
-returns-then-told-ne0 c = search (playing, rules)
+pub returns-then-told-ne0-clause-plays : goal.returns-then-told-ne0-clause-plays
+returns-then-told-ne0-clause-plays c = search (playing, rules)
 
-pub returns-then-refusal-ne0 : goal.returns-then-refusal-ne0
-returns-then-refusal-ne0 c = search (playing, rules)
+pub returns-then-refusal-ne0-clause-plays : goal.returns-then-refusal-ne0-clause-plays
+returns-then-refusal-ne0-clause-plays c = search (playing, rules)
 
-pub returns : goal.returns
-returns c = search (playing, rules)
+pub returns-clause-plays : goal.returns-clause-plays
+returns-clause-plays c = search (playing, rules)
