@@ -1,6 +1,7 @@
 -- A turn over a trace: its start, a record that is played, a fault or the end. Assumes nothing.
 use mathlib.Core.{Path.◌≡◌, Path.refl, Path.sym, Path.ap, Path.◌∙◌, List.List, List.[], List.◌∷◌}
 use mathlib.Core.Bool.{Bool, true, false}
+use Rattle.std.specs.Prelude.{Option}
 use Prim.Native.Nat.{ℕ, ◌+◌, ◌-◌, ◌≤◌, ◌<◌, ◌^◌}
 use native.Mathlib.Omega.{arith}
 use lib.{Dec.eqb, ListN.length, ListN.take, ListN.drop}
@@ -39,7 +40,7 @@ module _ (last : Bool) (sum : ℕ) (s d e : List ℕ) (x : Centre) (t : Entry) (
     shows = rw q at h;
   }
 
-  pub record_turned : t.refusal ≡ 0 → (y : Centre) (c : Credited) → PlaysFrame replaying x t.station (take (t.from + t.size - t.from) (drop t.from s)) y c → (n : ℕ)
+  pub record_turned : t.refusal ≡ 0 → (y : Centre) (c : Option Credited) → PlaysFrame replaying x t.station (take (t.from + t.size - t.from) (drop t.from s)) y c → (n : ℕ)
       → put e n ≡ put_parts (line_of t.station c ∷ []) (put d 0) → (r : Took) → r ≡ record { used = t.from + t.size; length = n; ended = false }
       → Turned x last sum s d y (sum + t.gap) e r
   unfolding record_turn

@@ -2,6 +2,7 @@
 use mathlib.Core.Path.{◌≡◌, refl, ap, subst, ◌∙◌}
 use mathlib.Core.Bool.{Bool, true, false, ◌&&◌, not, and-false}
 use mathlib.Core.List.{List, [], ◌∷◌}
+use Rattle.std.specs.Prelude.{Option}
 use Prim.Native.Nat.{ℕ, ◌+◌}
 use native.Mathlib.Omega.{arith}
 use lib.{Dec.eqb, ListN.length}
@@ -22,7 +23,7 @@ pub data TraceWay : Bool → Phase → List ℕ → Turn Phase → Type 0 where
   await : (x : Centre) (s : List ℕ) → (start_of s).refusal ≡ 33 → TraceWay false (Phase.starting x) s (leaving (Phase.starting x) (passes 0 []))
   fail : (last : Bool) (x : Centre) (s : List ℕ) → ((start_of s).refusal ≡ 0 → ⊥) → eqb (start_of s).refusal 33 && not last ≡ false
       → TraceWay last (Phase.starting x) s (leaving (Phase.starting x) (stops (start_of s).refusal))
-  play : (last : Bool) (sum : ℕ) (x y : Centre) (s : List ℕ) (r : Credited) → (entry_of sum s).refusal ≡ 0 → PlaysFrame replaying x (entry_of sum s).station (frame_of s (entry_of sum s)) y r
+  play : (last : Bool) (sum : ℕ) (x y : Centre) (s : List ℕ) (r : Option Credited) → (entry_of sum s).refusal ≡ 0 → PlaysFrame replaying x (entry_of sum s).station (frame_of s (entry_of sum s)) y r
       → TraceWay last (Phase.playing sum x) s (leaving (Phase.playing (sum + (entry_of sum s).gap) y) (passes (end_of sum s) (line_of (entry_of sum s).station r)))
   wait : (sum : ℕ) (x : Centre) (s : List ℕ) → (entry_of sum s).refusal ≡ 33 → TraceWay false (Phase.playing sum x) s (leaving (Phase.playing sum x) (passes 0 []))
   end : (sum : ℕ) (x : Centre) → TraceWay true (Phase.playing sum x) [] (leaving (Phase.playing sum x) finishes)

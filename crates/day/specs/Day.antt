@@ -1,6 +1,6 @@
 -- Document 02, Q-3: a turn over a trace: its first number, then record by record, each played through sessions and table.
 use mathlib.Core.{Path.◌≡◌, Bool.Bool, List.List, List.[]}
-use Rattle.std.specs.Prelude.{ℕ, ◌+◌}
+use Rattle.std.specs.Prelude.{ℕ, ◌+◌, Option}
 use lib.{Dec.eqb, ListN.length}
 use Rattle.octets.specs.Choice.{either}
 use Rattle.trace.specs.Record.{entry_of, frame_of, start_of}
@@ -29,7 +29,7 @@ start_turn last x s =
     (λ _. leaving (Phase.starting x) (refuses last (start_of s).refusal))
 
 -- a record that is played, and the reading that was new
-unfoldable pub record_turn : ℕ → List ℕ → Centre → Credited → Turn Phase
+unfoldable pub record_turn : ℕ → List ℕ → Centre → Option Credited → Turn Phase
 record_turn sum s y r = leaving (Phase.playing (sum + (entry_of sum s).gap) y) (passes (end_of sum s) (line_of (entry_of sum s).station r))
 
 -- a fault, or the end
@@ -38,7 +38,7 @@ fault_turn last sum s x = leaving (Phase.playing sum x) (refuses_between last (l
 
 pub data TraceTurn : Bool → Phase → List ℕ → Turn Phase → Type 0 where
   starts : (last : Bool) (x : Centre) (s : List ℕ) → TraceTurn last (Phase.starting x) s (start_turn last x s)
-  plays : (last : Bool) (sum : ℕ) (x y : Centre) (s : List ℕ) (r : Credited) → (entry_of sum s).refusal ≡ 0
+  plays : (last : Bool) (sum : ℕ) (x y : Centre) (s : List ℕ) (r : Option Credited) → (entry_of sum s).refusal ≡ 0
       → PlaysFrame replaying x (entry_of sum s).station (frame_of s (entry_of sum s)) y r → TraceTurn last (Phase.playing sum x) s (record_turn sum s y r)
   faults : (last : Bool) (sum : ℕ) (x : Centre) (s : List ℕ) → ((entry_of sum s).refusal ≡ 0 → ⊥) → TraceTurn last (Phase.playing sum x) s (fault_turn last sum s x)
 

@@ -15,6 +15,7 @@ use Rattle.trace.specs.Write.{record_bytes}
 use Rattle.trace.specs.Trace.{Arrival, records_bytes, trace_bytes, are_records, end_of}
 use Rattle.trace.proofs.Whole.{start_reads, start_rest}
 use Rattle.trace.proofs.Records.{entry_for, record_reads, record_frame, record_rest}
+use Rattle.std.specs.Prelude.{Option, Some, None}
 use Rattle.play.specs.declared.Credited.{Credited}
 use Rattle.play.specs.Play.{replaying}
 use Rattle.play.specs.Centre.{Centre, PlaysFrame}
@@ -25,14 +26,10 @@ use Rattle.live.specs.Recorded.{frames_of, lines_of}
 use Rattle.live.proofs.{Zeros.new_fresh, Settled.plays_all, Settled.first, Settled.none_left, Replayed.replay_credits}
 
 -- a reading that is new has a line in front of the others
-lines_of_lem : (k : ℕ) (r : Credited) (bs : List Bill) → lines_of (billed k r bs) ≡ line_of k r ++ lines_of bs
+lines_of_lem : (k : ℕ) (r : Option Credited) (bs : List Bill) → lines_of (billed k r bs) ≡ line_of k r ++ lines_of bs
 unfolding lines_of line_of
-lines_of_lem k r bs = go r.is_new
-  where
-    go : (t : Bool) → lines_of (either t (λ _. record { station = k; eui = r.eui; counter = r.counter } ∷ bs) (λ _. bs))
-        ≡ either t (λ _. reading_line k r.eui r.counter) (λ _. []) ++ lines_of bs
-    go true = refl
-    go false = refl
+lines_of_lem k (Some r) bs = refl
+lines_of_lem k None bs = refl
 
 -- one record in front of others
 module _ (sum : ℕ) (a : Arrival) (time : is_time (sum + a.gap) ≡ true) (known : is_station a.station ≡ true) (whole : is_one_frame a.frame ≡ true) (t : List ℕ) where
@@ -48,7 +45,7 @@ module _ (sum : ℕ) (a : Arrival) (time : is_time (sum + a.gap) ≡ true) (know
   rest_is : drop (end_of sum s) s ≡ t
   rest_is = ap (λ (e : Entry). drop (e.from + e.size) s) entry_is ∙ record_rest sum a.gap a.station a.frame time known whole t
 
-  one_plays : (x y z : Centre) (r : Credited) (out : List ℕ) → PlaysFrame replaying x a.station a.frame y r → Replays (sum + a.gap) y t out z
+  one_plays : (x y z : Centre) (r : Option Credited) (out : List ℕ) → PlaysFrame replaying x a.station a.frame y r → Replays (sum + a.gap) y t out z
       → Replays sum x s (line_of a.station r ++ out) z
   one_plays x y z r out p q =
       let station-is : (entry_of sum s).station ≡ a.station = ap (λ (e : Entry). e.station) entry_is in

@@ -5,8 +5,8 @@ use Rattle.day.proofs.Recording.{recording}
 use Rattle.std.proofs.Common.{rules, arith}
 use Rattle.day.proofs.turn.Goals as goal
 
-pub returns-then-e-ne0 : goal.returns-then-e-ne0
-returns-then-e-ne0 c = search (recording, entries, arith, rules)
+pub returns-then-e-ne0-clause-turned : goal.returns-then-e-ne0-clause-turned
+returns-then-e-ne0-clause-turned c = search (recording, entries, arith, rules)
 
 pub overflow_add-end : goal.overflow_add-end
 overflow_add-end c = search (recording, entries, arith, rules)
@@ -20,5 +20,5 @@ play_frame-reading-requires c = search (recording, entries, arith, rules)
 pub overflow_add-sum : goal.overflow_add-sum
 overflow_add-sum c = search (recording, entries, arith, rules)
 
-pub returns : goal.returns
-returns c = search (recording, entries, arith, rules)
+pub returns-clause-turned : goal.returns-clause-turned
+returns-clause-turned c = search (recording, entries, arith, rules)
