@@ -1,4 +1,4 @@
--- The table as its columns are lent to each call: what they hold, and that a call leaves it with the same columns lent to write.
+-- The table as its columns are lent to each call: what they hold, and that a call leaves the same columns in it, of which those lent to read hold what they held.
 use Rattle.std.specs.Prelude.{◌≡◌, ℕ, List}
 use Rattle.std.specs.Borrow.{Bor, MutBor}
 use Rattle.meters.specs.declared.table.Table.{Table}
@@ -25,10 +25,13 @@ abbrev pub withdrawn_in : Table Write Read Read Read Read → Columns
 withdrawn_in t = columns t.used.now t.euis.now t.shorts.now t.lasts.now t.heards.now
 
 abbrev pub StillWithdraws : Table Write Read Read Read Read → Table Write Read Read Read Read → Type 0
-StillWithdraws t n = n.used.ghost_name ≡ t.used.ghost_name
+StillWithdraws t n =
+    (n.used.ghost_name ≡ t.used.ghost_name) × (n.euis.now ≡ t.euis.now) × (n.shorts.now ≡ t.shorts.now) × (n.lasts.now ≡ t.lasts.now) × (n.heards.now ≡ t.heards.now)
 
 abbrev pub credited_in : Table Read Read Read Write Write → Columns
 credited_in t = columns t.used.now t.euis.now t.shorts.now t.lasts.now t.heards.now
 
 abbrev pub StillCredits : Table Read Read Read Write Write → Table Read Read Read Write Write → Type 0
-StillCredits t n = (n.lasts.ghost_name ≡ t.lasts.ghost_name) × (n.heards.ghost_name ≡ t.heards.ghost_name)
+StillCredits t n =
+    (n.lasts.ghost_name ≡ t.lasts.ghost_name) × (n.heards.ghost_name ≡ t.heards.ghost_name)
+    × (n.used.now ≡ t.used.now) × (n.euis.now ≡ t.euis.now) × (n.shorts.now ≡ t.shorts.now)

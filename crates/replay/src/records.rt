@@ -74,14 +74,7 @@ fn turn(
     if !started {
         return day::start(bytes, h.last, &mut out[filled..]);
     }
-    day::turn(
-        bytes,
-        h.last,
-        sum,
-        sessions,
-        table,
-        &mut out[filled..],
-    )
+    day::turn(bytes, h.last, sum, sessions, table, &mut out[filled..])
 }
 
 // Records so far; there is no trace of 2^64 of them.
