@@ -1,16 +1,16 @@
 -- A turn over enrolments: too few bytes, a row taken, or a refusal. Assumes nothing.
-use mathlib.Core.{Path.◌≡◌, Path.refl, Path.sym, Path.ap, Path.◌∙◌, List.List, List.[], List.◌∷◌}
-use mathlib.Core.Bool.{Bool, true, false}
+use mathlib.Core.{Path.◌≡◌, Path.sym, Path.ap, Path.◌∙◌, List.List}
+use mathlib.Core.Bool.{Bool, false}
 use Prim.Native.Nat.{ℕ, ◌+◌, ◌≤◌, ◌<◌}
 use native.Mathlib.Omega.{arith}
-use lib.{Dec.leb, ListN.length}
+use lib.{ListN.length}
 use borrow.Author.Tests.{le-leb, lt-leb}
 use Rattle.octets.specs.Number.{big_at, if_there}
-use Rattle.forms.specs.Code.Put.{put, put_parts}
+use Rattle.forms.specs.Code.Put.{put}
 use Rattle.std.specs.Prelude.{Ok, Err}
 use Rattle.refusal.specs.{declared.Refusal.Refusal, Number.number_of}
 use Rattle.meters.specs.Answers.{Found}
-use Rattle.meters.specs.Columns.{Columns, told_place, enrol_on, Done}
+use Rattle.meters.specs.Columns.{Columns, told_place, enrol_on}
 use Rattle.lines.specs.{Turn.Shows, declared.Took.Took}
 use Rattle.lines.proofs.Texts.{none_put}
 use Rattle.turns.specs.Turns.{Turn}

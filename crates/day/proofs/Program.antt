@@ -1,8 +1,7 @@
 -- What the program prints of both files is settled: there is one text, and no second. Assumes nothing.
-use mathlib.Core.{Path.◌≡◌, Path.refl, Path.sym, Path.subst, Path.◌∙◌, List.List, List.[], List.◌∷◌}
+use mathlib.Core.{Path.◌≡◌, Path.subst, List.List, List.[], List.◌∷◌}
 use Prim.Native.Nat.{ℕ}
 use Rattle.meters.specs.Columns.{Columns}
-use Rattle.play.specs.Centre.{Centre}
 use Rattle.day.specs.{Enrolments.empty_table, Replay.Enrols, Replay.ReplaysTrace, Replay.daybreak, Replay.Prints}
 use Rattle.day.proofs.{EnrolWays.some_bytes, Printing.enrols_once, Printing.enrols_all, Printing.replays_once, Printing.replays_all}
 

@@ -1,18 +1,17 @@
 -- A turn over a trace: its start, a record that is played, a fault or the end. Assumes nothing.
 use mathlib.Core.{Path.◌≡◌, Path.refl, Path.sym, Path.ap, Path.◌∙◌, List.List, List.[], List.◌∷◌}
-use mathlib.Core.Bool.{Bool, true, false}
+use mathlib.Core.Bool.{Bool, false}
 use Rattle.std.specs.Prelude.{Option}
-use Prim.Native.Nat.{ℕ, ◌+◌, ◌-◌, ◌≤◌, ◌<◌, ◌^◌}
-use native.Mathlib.Omega.{arith}
-use lib.{Dec.eqb, ListN.length, ListN.take, ListN.drop}
+use Prim.Native.Nat.{ℕ, ◌+◌, ◌-◌}
+use lib.{ListN.length, ListN.take, ListN.drop}
 use borrow.Author.Tests.{eq-eqb, ne_eqb}
 use Rattle.forms.specs.Code.Put.{put, put_parts}
 use Rattle.groups.specs.declared.Number.{Number}
 use Rattle.trace.specs.declared.Entry.{Entry}
-use Rattle.trace.specs.Record.{entry_of, frame_of, start_of}
+use Rattle.trace.specs.Record.{entry_of, start_of}
 use Rattle.trace.proofs.Entries.{frame_cut}
 use Rattle.play.specs.declared.Credited.{Credited}
-use Rattle.play.specs.{Play.replaying, Centre.Centre, Centre.centre, Centre.PlaysFrame}
+use Rattle.play.specs.{Play.replaying, Centre.Centre, Centre.PlaysFrame}
 use Rattle.lines.specs.{Turn.Shows, declared.Took.Took}
 use Rattle.lines.proofs.Texts.{none_put}
 use Rattle.day.specs.{Lines.line_of, Turn.refuses, Turn.refuses_between, Turn.shown_by, Day.Phase, Day.start_turn, Day.record_turn, Day.fault_turn, Day.TraceTurn, Day.Turned}

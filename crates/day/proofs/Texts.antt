@@ -1,14 +1,14 @@
 -- The text of a reading's line, part by part, and lines made in a room of 80 bytes: none is longer. Assumes nothing.
-use mathlib.Core.{Path.◌≡◌, Path.refl, Path.sym, Path.ap, Path.◌∙◌}
+use mathlib.Core.{Path.◌≡◌}
 use mathlib.Core.List.{List, [], ◌∷◌, ◌++◌}
 use Rattle.std.specs.Prelude.{Option, Some, None}
-use Prim.Native.Nat.{ℕ, ◌+◌, ◌≤◌}
+use Prim.Native.Nat.{ℕ, ◌≤◌}
 use native.Mathlib.Omega.{arith}
 use lib.{ListN.length, ListN.take, ListN.length-append}
 use Rattle.forms.specs.Code.Put.{Put, put, put_parts, joined}
 use Rattle.forms.proofs.{Putting.parts_then, Putting.joined_join, Decimals.few_digits, Decimals.joined_each}
 use Rattle.names.specs.Names.{bytes}
-use Rattle.lines.specs.{Lines.decimal, Lines.counted, Code.Parts.decimal_parts, Code.Parts.counted_parts}
+use Rattle.lines.specs.{Code.Parts.decimal_parts, Code.Parts.counted_parts}
 use Rattle.lines.proofs.{Texts.none_put, Made.joined_counted, Made.few_counted, Made.made_size, Made.made_taken, Made.made_put}
 use Rattle.play.specs.declared.Credited.{Credited}
 use Rattle.day.specs.{Lines.reading_line, Lines.line_of, Lines.refused_line, Code.Parts.reading_parts}

@@ -1,12 +1,12 @@
 -- What a turn shows that finds a fault, or the end. Assumes nothing.
-use mathlib.Core.{Path.◌≡◌, Path.refl, Path.sym, Path.ap, Path.◌∙◌, List.List, List.[], List.◌∷◌}
+use mathlib.Core.{Path.◌≡◌, Path.refl, Path.ap, Path.◌∙◌, List.List, List.[], List.◌∷◌}
 use mathlib.Core.Bool.{Bool, true, false, ◌&&◌, not}
 use Prim.Native.Nat.{ℕ}
 use lib.Dec.{eqb}
-use Rattle.forms.specs.Code.Put.{Put, put, put_parts}
-use Rattle.lines.specs.{Turn.Printed, Turn.Shows, declared.Took.Took}
+use Rattle.forms.specs.Code.Put.{put, put_parts}
+use Rattle.lines.specs.{Turn.Shows, declared.Took.Took}
 use Rattle.lines.proofs.Texts.{none_put}
-use Rattle.day.specs.{Lines.refused_line, Turn.passes, Turn.stops, Turn.finishes, Turn.refuses, Turn.refuses_between}
+use Rattle.day.specs.{Lines.refused_line, Turn.stops, Turn.refuses, Turn.refuses_between}
 
 pub stopped_shows : (k n : ℕ) (d e : List ℕ) → put e n ≡ put_parts (refused_line k ∷ []) (put d 0) → Shows (stops k) d e (record { used = 0; length = n; ended = true })
 stopped_shows k n d e p = record { used = refl; ended = refl; printed = p }

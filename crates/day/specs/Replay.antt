@@ -1,5 +1,5 @@
 -- Document 02, Q-3: all that is printed of an enrolment file and a trace.
-use mathlib.Core.{Path.◌≡◌, List.List, List.[], List.◌∷◌, List.◌++◌}
+use mathlib.Core.{Path.◌≡◌, List.List, List.[], List.◌++◌}
 use Rattle.std.specs.Prelude.{ℕ, ◌+◌, ◌*◌, ◌≤◌, ◌<◌, length, drop, replicate, Option, Ok, Err}
 use Rattle.session.specs.Image.{session_size}
 use Rattle.refusal.specs.declared.Refusal.{Refusal}

@@ -1,16 +1,14 @@
 -- Document 02, Q-3: the trace that a host recorded of its day, replayed from the same enrolments, prints the readings that the host credited, in their order,
 -- and leaves the host's table. By induction over the records, and by the law of a day's credits. Assumes nothing.
 use mathlib.Core.Path.{◌≡◌, refl, sym, ap, subst, subst₂, ◌∙◌}
-use mathlib.Core.Bool.{Bool, true, false, ◌&&◌}
+use mathlib.Core.Bool.{true, false, ◌&&◌}
 use mathlib.Core.List.{List, [], ◌∷◌, ◌++◌}
 use Prim.Native.Nat.{ℕ, ◌+◌}
 use lib.ListN.{drop}
-use Rattle.octets.specs.Choice.{either}
 use Rattle.octets.proofs.Truth.{both}
-use Rattle.groups.specs.Groups.{number_bytes}
 use Rattle.meters.specs.Columns.{Columns}
 use Rattle.trace.specs.declared.Entry.{Entry}
-use Rattle.trace.specs.Record.{is_one_frame, is_time, is_station, entry_of, frame_of, start_of}
+use Rattle.trace.specs.Record.{is_one_frame, is_time, is_station, entry_of, frame_of}
 use Rattle.trace.specs.Write.{record_bytes}
 use Rattle.trace.specs.Trace.{Arrival, records_bytes, trace_bytes, are_records, end_of}
 use Rattle.trace.proofs.Whole.{start_reads, start_rest}
@@ -19,7 +17,7 @@ use Rattle.std.specs.Prelude.{Option, Some, None}
 use Rattle.play.specs.declared.Credited.{Credited}
 use Rattle.play.specs.Play.{replaying}
 use Rattle.play.specs.Centre.{Centre, PlaysFrame}
-use Rattle.day.specs.Lines.{line_of, reading_line}
+use Rattle.day.specs.Lines.{line_of}
 use Rattle.day.specs.{Enrolments.empty_table, Replay.Enrols, Replay.Replays, Replay.ReplaysTrace, Replay.daybreak, Replay.Prints}
 use Rattle.live.specs.Live.{Event, Bill, billed, Lives, Frame, heard, PlaysAll}
 use Rattle.live.specs.Recorded.{frames_of, lines_of}

@@ -1,14 +1,14 @@
 -- What the table's answer is as a reading, and which message goes to the table. Assumes nothing.
-use mathlib.Core.{Path.◌≡◌, Path.refl, Path.sym, Path.ap, Path.◌∙◌, Bool.true, List.List}
-use Rattle.std.specs.Prelude.{Option, Some, None, Ok, Err}
+use mathlib.Core.{Path.◌≡◌, Path.refl, Path.ap, List.List}
+use Rattle.std.specs.Prelude.{Option, Ok, Err}
 use Rattle.refusal.specs.declared.Refusal.{Refusal}
 use Prim.Native.Nat.{ℕ}
 use Rattle.record.specs.declared.{Body.Body, UlData.UlData, Con.Con, ConRsp.ConRsp, StatusRsp.StatusRsp, Det.Det, AttPrp.AttPrp, DlDataQue.DlDataQue}
 use Rattle.meters.specs.declared.{Credit.Credit, Kind.TheVariants.New, Kind.TheVariants.Copy}
 use Rattle.meters.specs.Answers.{Uplinked}
-use Rattle.meters.specs.Columns.{Columns, told_credit, uplink_on, Done}
+use Rattle.meters.specs.Columns.{Columns, told_credit, uplink_on}
 use Rattle.play.specs.declared.Credited.{Credited}
-use Rattle.play.specs.Play.{Played, played, no_reading, new_reading, reading_of, credited, to_table}
+use Rattle.play.specs.Play.{played, no_reading, new_reading, reading_of, credited, to_table}
 
 module _ (c e : Columns) (eui counter station : ℕ) (a : Uplinked) (t : told_credit a e ≡ uplink_on c eui counter station) where
   by_answer : (r : Option Credited) → r ≡ reading_of a eui counter → (d : List ℕ) → played d e r ≡ credited d c station eui counter

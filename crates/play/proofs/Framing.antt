@@ -1,5 +1,5 @@
 -- One station's session among all: what playing leaves of it, said of the whole. Assumes nothing.
-use mathlib.Core.{Path.◌≡◌, Path.refl, Path.sym, Path.ap, Path.◌∙◌, List.List, List.◌++◌}
+use mathlib.Core.{Path.◌≡◌, Path.refl, Path.ap, List.List, List.◌++◌}
 use Rattle.std.specs.Prelude.{Option}
 use Prim.Native.Nat.{ℕ, ◌+◌, ◌-◌, ◌*◌}
 use native.Mathlib.Omega.{arith}

@@ -1,11 +1,10 @@
 -- A payload played, by what is read of it. Assumes nothing.
-use mathlib.Core.{Path.◌≡◌, Path.refl, Path.sym, Path.ap, Path.◌∙◌, List.List}
+use mathlib.Core.{Path.◌≡◌, Path.sym, Path.ap, List.List}
 use Rattle.std.specs.Prelude.{Option}
 use Prim.Native.Nat.{ℕ}
-use lib.Dec.{eqb}
 use borrow.Author.Tests.{eq-eqb, ne_eqb}
-use Rattle.record.specs.declared.{Body.Body, Message.Message, Told.Told}
-use Rattle.record.specs.Meant.{Answered, Meant}
+use Rattle.record.specs.declared.{Told.Told}
+use Rattle.record.specs.Meant.{Meant}
 use Rattle.meters.specs.Columns.{Columns}
 use Rattle.play.specs.declared.Credited.{Credited}
 use Rattle.play.specs.Play.{Played, played, no_reading, replaying, arrival, to_table, after_arrival, play_of, scratch, Plays}
