@@ -42,7 +42,7 @@ pub fn chz_add(store: &mut [u8], message: &[u8], lent: &[u8]) -> u64
     ensures { ◌≡◌ {A = Filled} (filled result store.new) (add_returns store.old message.now lent.now) }
 {
     if message.len() != layout::SIZE {
-        return refuse(Refusal::Invalid.number());
+        return refuse(Refusal::Invalid);
     }
     place_answer(queue::add(store, layout::message_in(message), lent))
 }
