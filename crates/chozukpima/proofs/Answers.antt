@@ -7,12 +7,10 @@ use Rattle.std.specs.Prelude.{Ok, Err}
 use Rattle.refusal.specs.{Number.number_of, declared.Broken.Broken, declared.Refusal.Refusal}
 use Rattle.element.specs.Form.{Walked}
 use Rattle.frame.specs.Frame.{Framed}
-use Rattle.meters.specs.declared.{Found.Found, Credit.Credit}
-use Rattle.meters.specs.declared.Found.TheVariants as found
-use Rattle.meters.specs.declared.Credit.TheVariants as credit
-use Rattle.meters.specs.Answers.{table_refusal, row_of, credit_refusal_of, credit_row_of, hearers_of}
+use Rattle.meters.specs.declared.Credit.{Credit}
+use Rattle.meters.specs.Answers.{Found, Uplinked, table_refusal, row_of, credit_refusal_of, credit_row_of, hearers_of}
 use Rattle.meters.specs.Columns.{Columns, Done, told_place, told_credit}
-use Rattle.chozukpima.specs.Packed.{most, shown, packed, frame_answer, form_answer, credit_kind, credit_value, Tabled, tabled, placed, credit_tabled}
+use Rattle.chozukpima.specs.Packed.{most, shown, packed, frame_answer, form_answer, refused_with, kind_number, credit_kind, credit_value, Tabled, tabled, placed, credit_tabled}
 
 pub shown_whole : (v : ℕ) → v ≤ most → v ≡ shown v
 unfolding shown
@@ -43,11 +41,11 @@ module _ (w v : Walked) (i : v ≡ w) (r : ℕ) where
       q ∙ ap (λ x. packed x 0 b.place) n ∙ ap (packed (number_of b.refusal) 0) z ∙ ap form_answer (sym e ∙ i)
 
 module _ (f : Found) (r k : ℕ) where
-  pub place_found : f ≡ found.At k → r ≡ packed 0 0 k → r ≡ packed (table_refusal f) 0 (row_of f)
+  pub place_found : f ≡ Ok k → r ≡ packed 0 0 k → r ≡ packed (table_refusal f) 0 (row_of f)
   place_found e p = p ∙ ap (λ x. packed (table_refusal x) 0 (row_of x)) (sym e)
 
-  pub place_refused : f ≡ found.Refused k → r ≡ packed k 0 0 → r ≡ packed (table_refusal f) 0 (row_of f)
-  place_refused e p = p ∙ ap (λ x. packed (table_refusal x) 0 (row_of x)) (sym e)
+  pub place_refused : (n : Refusal) → f ≡ Err n → r ≡ refused_with (number_of n) → r ≡ packed (table_refusal f) 0 (row_of f)
+  place_refused n e p = p ∙ ap (λ x. packed (table_refusal x) 0 (row_of x)) (sym e)
 
 -- a credit's value: a row past 40 bits is a value past 48
 module _ (k i : ℕ) where
@@ -63,26 +61,22 @@ packed_shown : (a b v w : ℕ) → shown v ≡ shown w → packed a b v ≡ pack
 unfolding packed
 packed_shown a b v w e = ap (λ x. a + (256 * b + 65536 * x)) e
 
-abbrev packed_credit : Credit → ℕ
+abbrev packed_credit : Uplinked → ℕ
 packed_credit c = packed (credit_refusal_of c) (credit_kind c) (credit_value (hearers_of c) (credit_row_of c))
 
-module _ (c : Credit) (r k : ℕ) where
-  module _ (i v : ℕ) (s : shown v ≡ shown (credit_value k i)) where
-    pub credit_new : c ≡ credit.New k i → r ≡ packed 0 17 v → r ≡ packed_credit c
-    credit_new e p = p ∙ packed_shown 0 17 v (credit_value k i) s ∙ ap packed_credit (sym e)
+module _ (c : Uplinked) (r k : ℕ) where
+  pub credit_taken : (a : Credit) → c ≡ Ok a → k ≡ kind_number a.kind → (v : ℕ) → shown v ≡ shown (credit_value a.hearers a.row) → r ≡ packed 0 k v → r ≡ packed_credit c
+  credit_taken a e q v s p = p ∙ ap (λ x. packed 0 x v) q ∙ packed_shown 0 (kind_number a.kind) v (credit_value a.hearers a.row) s ∙ ap packed_credit (sym e)
 
-    pub credit_copy : c ≡ credit.Copy k i → r ≡ packed 0 18 v → r ≡ packed_credit c
-    credit_copy e p = p ∙ packed_shown 0 18 v (credit_value k i) s ∙ ap packed_credit (sym e)
-
-  pub credit_refused : c ≡ credit.Refused k → r ≡ packed k 0 0 → r ≡ packed_credit c
+  pub credit_refused : (n : Refusal) → c ≡ Err n → r ≡ refused_with (number_of n) → r ≡ packed_credit c
   unfolding credit_value
-  credit_refused e p = p ∙ ap packed_credit (sym e)
+  credit_refused n e p = p ∙ ap packed_credit (sym e)
 
 -- the answer and the columns afterwards
 pub found_told : (f : Found) (r : ℕ) (c : Columns) (d : Done Found) → r ≡ packed (table_refusal f) 0 (row_of f) → told_place f c ≡ d → ◌≡◌ {A = Tabled} (tabled r c) (placed d)
 found_told f r c d e p = ap (λ x. tabled x c) e ∙ ap placed p
 
-pub credit_told : (f : Credit) (r : ℕ) (c : Columns) (d : Done Credit) → r ≡ packed_credit f → told_credit f c ≡ d → ◌≡◌ {A = Tabled} (tabled r c) (credit_tabled d)
+pub credit_told : (f : Uplinked) (r : ℕ) (c : Columns) (d : Done Uplinked) → r ≡ packed_credit f → told_credit f c ≡ d → ◌≡◌ {A = Tabled} (tabled r c) (credit_tabled d)
 credit_told f r c d e p = ap (λ x. tabled x c) e ∙ ap credit_tabled p
 
-pub ruleset answers = (shown_whole, shown_most, packed_as, frame_whole, frame_refused, form_whole, form_refused, place_found, place_refused, value_whole, value_most, credit_new, credit_copy, credit_refused, found_told, credit_told)
+pub ruleset answers = (shown_whole, shown_most, packed_as, frame_whole, frame_refused, form_whole, form_refused, place_found, place_refused, value_whole, value_most, credit_taken, credit_refused, found_told, credit_told)

@@ -41,7 +41,7 @@ module _ (t : Result Counted Broken) (d : List ℕ) (r : ℕ) where
       → (length d ≡ message_size → is_named x.message.body ≡ true → message_at after ≡ x.message) → Stands t r after
   stands_whole x h after l e b =
       let q : either (eqb (length d) message_size) (λ _. message_image x.message) (λ _. d) ≡ message_image x.message = simp (eq-eqb (length d) message_size l) in
-      record { told = λ _. (x, (h, b l)); long = λ _. ap length (e ∙ q) ∙ image_size x.message }
+      record { told = λ _. (x, h, b l); long = λ _. ap length (e ∙ q) ∙ image_size x.message }
 
 -- each in the shape of a need of `chz_read`
 module _ (m d : List ℕ) (r : ℕ) where
@@ -55,9 +55,9 @@ module _ (m d : List ℕ) (r : ℕ) where
     long = s.long;
     fit = λ z.
         let k = s.told z in
-        let f = read_writes p before (record { told = t; lent = d }) n k.0 k.1.0 in
+        let f = read_writes p before (record { told = t; lent = d }) n k.0 k.1 in
         let named = sym (is_true (is_named k.0.message.body) (fits_named k.0.message d f)) in
-        ap (λ (x : Message). fits x d) (k.1.1 named) ∙ f;
+        ap (λ (x : Message). fits x d) (k.2 named) ∙ f;
   }
 
 pub ruleset keeps = (stands_refused, stands_whole, kept_short, kept_whole)

@@ -53,9 +53,9 @@ module _ (time gap station : ℕ) (frame room d : List ℕ) (w : Result ℕ Refu
     pub record_taken : (r : ℕ) → r ≡ packed 0 0 n → timed r (time + gap) d ≡ record_returns time gap station frame room
     record_taken r a = record_as (time + gap) (ap (λ (x : Result ℕ Refusal). time_after x time gap) (sym z)) r (a ∙ ap wrote_answer (sym z))
 
-  pub record_refused_lem : (k : Refusal) → w ≡ Err k → (j r : ℕ) → j ≡ number_of k → r ≡ refused_with j → timed r time d ≡ record_returns time gap station frame room
-  record_refused_lem k z j r g a =
-      record_as time (ap (λ (x : Result ℕ Refusal). time_after x time gap) (sym z)) r (a ∙ ap refused_with g ∙ ap wrote_answer (sym z))
+  pub record_refused_lem : (k : Refusal) → w ≡ Err k → (r : ℕ) → r ≡ refused_with (number_of k) → timed r time d ≡ record_returns time gap station frame room
+  record_refused_lem k z r a =
+      record_as time (ap (λ (x : Result ℕ Refusal). time_after x time gap) (sym z)) r (a ∙ ap wrote_answer (sym z))
 
 module _ (time : ℕ) (s : List ℕ) (a : Result Entry Refusal) (q : a ≡ entry_of time s) where
   pub entry_read : (e : Entry) → a ≡ Ok e → (r : ℕ) → r ≡ entry_answer e → advanced r (time + e.gap) ≡ recorded_returns time s

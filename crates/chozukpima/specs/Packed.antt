@@ -1,11 +1,11 @@
 -- One number answers every call: bits 0 to 7 the refusal (0: done), 8 to 15 what happened, 16 to 63 the value: a length, a count, a row, a credit's
 -- hearers and row, or the place for refusals 4 to 10. A value past 48 bits, which no memory has room for, shows as the greatest.
-use Rattle.std.specs.Prelude.{ℕ, ◌+◌, ◌*◌, ◌/◌, ◌%◌, leb}
+use Rattle.std.specs.Prelude.{ℕ, ◌+◌, ◌*◌, ◌/◌, ◌%◌, leb, Ok, Err}
 use Rattle.octets.specs.Choice.{either}
 use Rattle.element.specs.Form as Form
 use Rattle.frame.specs.Frame.{Framed, frame_refusal, used_of}
-use Rattle.meters.specs.declared.{Found.Found, Credit.Credit}
-use Rattle.meters.specs.declared.Credit.TheVariants as credit
+use Rattle.meters.specs.Answers.{Found, Uplinked}
+use Rattle.meters.specs.declared.Kind.{Kind, TheVariants.New, TheVariants.Copy}
 use Rattle.meters.specs.Columns.{Done, Columns}
 
 abbrev pub most : ℕ
@@ -42,16 +42,19 @@ abbrev pub place_answer : Done Found → ℕ
 place_answer d = packed d.refusal 0 d.row
 
 -- 17 new, 18 a copy: no number of a session's step
-abbrev pub credit_kind : Credit → ℕ
-credit_kind (credit.New k i) = 17
-credit_kind (credit.Copy k i) = 18
-credit_kind (credit.Refused n) = 0
+abbrev pub kind_number : Kind → ℕ
+kind_number New = 17
+kind_number Copy = 18
+
+abbrev pub credit_kind : Uplinked → ℕ
+credit_kind (Ok c) = kind_number c.kind
+credit_kind (Err r) = 0
 
 -- the hearers, who are at most 64, in the value's low byte, and the row above it
 unfoldable pub credit_value : ℕ → ℕ → ℕ
 credit_value hearers row = hearers + 256 * row
 
-abbrev pub credit_answer : Done Credit → ℕ
+abbrev pub credit_answer : Done Uplinked → ℕ
 credit_answer d = packed d.refusal (credit_kind d.answer) (credit_value d.hearers d.row)
 
 -- an answer, and the columns afterwards
@@ -62,7 +65,7 @@ pub record Tabled : Type 0 where
 abbrev pub placed : Done Found → Tabled
 placed d = record { answer = place_answer d; columns = d.columns }
 
-abbrev pub credit_tabled : Done Credit → Tabled
+abbrev pub credit_tabled : Done Uplinked → Tabled
 credit_tabled d = record { answer = credit_answer d; columns = d.columns }
 
 abbrev pub tabled : ℕ → Columns → Tabled

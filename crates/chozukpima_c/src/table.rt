@@ -3,6 +3,8 @@ ghost use Rattle.std.specs.Prelude.{◌≡◌};
 ghost use Rattle.meters.specs.Columns.{columns, find_on, enrol_on, withdraw_on, uplink_on};
 ghost use Rattle.chozukpima.specs.Packed.{Tabled, tabled, placed, credit_tabled};
 
+use meters::Table;
+
 // The meter's row; 24, 21.
 #[unsafe(no_mangle)]
 pub extern "C" fn chz_find(
@@ -16,7 +18,14 @@ pub extern "C" fn chz_find(
     ensures { ◌≡◌ {A = Tabled} (tabled result (columns used.now euis.now shorts.now lasts.now heards.now))
         (placed (find_on (columns used.now euis.now shorts.now lasts.now heards.now) meter)) }
 {
-    chozukpima::table::chz_find(used, euis, shorts, lasts, heards, meter)
+    let table = Table {
+        used,
+        euis,
+        shorts,
+        lasts,
+        heards,
+    };
+    chozukpima::table::chz_find(&table, meter)
 }
 
 // Takes the lowest free row for a meter; 24, 22, 23.
@@ -34,7 +43,14 @@ pub extern "C" fn chz_enrol(
     ensures { ◌≡◌ {A = Tabled} (tabled result (columns used.new euis.new shorts.new lasts.new heards.new))
         (placed (enrol_on (columns used.old euis.old shorts.old lasts.old heards.old) meter short counter)) }
 {
-    chozukpima::table::chz_enrol(used, euis, shorts, lasts, heards, meter, short, counter)
+    let mut table = Table {
+        used,
+        euis,
+        shorts,
+        lasts,
+        heards,
+    };
+    chozukpima::table::chz_enrol(&mut table, meter, short, counter)
 }
 
 // Frees the meter's row; 24, 21.
@@ -50,7 +66,14 @@ pub extern "C" fn chz_withdraw(
     ensures { ◌≡◌ {A = Tabled} (tabled result (columns used.new euis.now shorts.now lasts.now heards.now))
         (placed (withdraw_on (columns used.old euis.now shorts.now lasts.now heards.now) meter)) }
 {
-    chozukpima::table::chz_withdraw(used, euis, shorts, lasts, heards, meter)
+    let mut table = Table {
+        used,
+        euis,
+        shorts,
+        lasts,
+        heards,
+    };
+    chozukpima::table::chz_withdraw(&mut table, meter)
 }
 
 // Credits a packet: new or a copy, how many stations heard it, and the meter's row; 24, 25, 21, 26.
@@ -68,5 +91,12 @@ pub extern "C" fn chz_uplink(
     ensures { ◌≡◌ {A = Tabled} (tabled result (columns used.now euis.now shorts.now lasts.new heards.new))
         (credit_tabled (uplink_on (columns used.now euis.now shorts.now lasts.old heards.old) meter counter station)) }
 {
-    chozukpima::table::chz_uplink(used, euis, shorts, lasts, heards, meter, counter, station)
+    let mut table = Table {
+        used,
+        euis,
+        shorts,
+        lasts,
+        heards,
+    };
+    chozukpima::table::chz_uplink(&mut table, meter, counter, station)
 }

@@ -6,18 +6,19 @@ use Prim.Native.Nat.{ℕ, suc, ◌≤◌, ◌<◌}
 use native.Mathlib.Omega.{arith}
 use lib.{Dec.leb, Dec.eqb, ListN.length}
 use borrow.Author.Tests.{le-leb, lt-leb, leb-true, leb-false, ne_eqb}
-use Rattle.meters.specs.declared.Found.{Found}
-use Rattle.meters.specs.declared.Found.TheVariants as found
+use Rattle.std.specs.Prelude.{Ok, Err}
+use Rattle.refusal.specs.{declared.Refusal.Refusal, Number.number_of}
+use Rattle.meters.specs.Answers.{Found}
 use Rattle.meters.specs.Columns.{Columns}
 use Rattle.turns.specs.Turns.{Turn}
 use Rattle.day.specs.Turn.{passes, stops, finishes, refuses, refuses_between, leaving}
 use Rattle.day.specs.Enrolments.{enrolment_size, enrolment_of, enrolled_by, enrol_turn, EnrolTurn}
 
 pub data EnrolWay : Bool → Columns → List ℕ → Turn Columns → Type 0 where
-  taken : (last : Bool) (c : Columns) (s : List ℕ) (i : ℕ) → enrolment_size ≤ length s → (enrolment_of s c).answer ≡ found.At i
+  taken : (last : Bool) (c : Columns) (s : List ℕ) (i : ℕ) → enrolment_size ≤ length s → (enrolment_of s c).answer ≡ Ok i
       → EnrolWay last c s (leaving (enrolment_of s c).columns (passes enrolment_size []))
-  refused : (last : Bool) (c : Columns) (s : List ℕ) (n : ℕ) → enrolment_size ≤ length s → (enrolment_of s c).answer ≡ found.Refused n
-      → EnrolWay last c s (leaving (enrolment_of s c).columns (stops n))
+  refused : (last : Bool) (c : Columns) (s : List ℕ) (r : Refusal) → enrolment_size ≤ length s → (enrolment_of s c).answer ≡ Err r
+      → EnrolWay last c s (leaving (enrolment_of s c).columns (stops (number_of r)))
   wait : (c : Columns) (s : List ℕ) → length s < enrolment_size → EnrolWay false c s (leaving c (passes 0 []))
   end : (c : Columns) → EnrolWay true c [] (leaving c finishes)
   cut : (c : Columns) (s : List ℕ) → (s ≡ [] → ⊥) → length s < enrolment_size → EnrolWay true c s (leaving c (stops 33))
@@ -52,8 +53,8 @@ way_all last c s = go (leb 14 (length s)) refl
     short true (b ∷ g) h = (_, EnrolWay.cut c (b ∷ g) (some_bytes b g) h)
 
     long : 14 ≤ length s → (a : Found) → (enrolment_of s c).answer ≡ a → (t : Turn Columns) × EnrolWay last c s t
-    long h (found.At i) e = (_, EnrolWay.taken last c s i h e)
-    long h (found.Refused n) e = (_, EnrolWay.refused last c s n h e)
+    long h (Ok i) e = (_, EnrolWay.taken last c s i h e)
+    long h (Err n) e = (_, EnrolWay.refused last c s n h e)
 
     go : (b : Bool) → leb 14 (length s) ≡ b → (t : Turn Columns) × EnrolWay last c s t
     go true q = long (leb-true 14 (length s) q) (enrolment_of s c).answer refl

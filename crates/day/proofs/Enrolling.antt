@@ -7,9 +7,9 @@ use lib.{ListN.length}
 use borrow.Author.Tests.{le-leb, lt-leb}
 use Rattle.octets.specs.Number.{big_at, if_there}
 use Rattle.forms.specs.Code.Put.{put}
-use Rattle.refusal.specs.declared.Refusal.{TheVariants.InputEnds}
-use Rattle.meters.specs.declared.Found.{Found}
-use Rattle.meters.specs.declared.Found.TheVariants as found
+use Rattle.std.specs.Prelude.{Ok, Err}
+use Rattle.refusal.specs.{declared.Refusal.Refusal, declared.Refusal.TheVariants.InputEnds, Number.number_of}
+use Rattle.meters.specs.Answers.{Found}
 use Rattle.meters.specs.Columns.{Columns, told_place, enrol_on}
 use Rattle.lines.specs.{Turn.Shows, declared.Took.Took}
 use Rattle.lines.proofs.Texts.{none_put}
@@ -27,15 +27,15 @@ module _ (c : Columns) (eui short counter : ℕ) (a : Found) (g : Columns) (t : 
   meter_keeps = go a meter_as
     where
       go : (b : Found) → enrol_meter c eui short counter ≡ enrolled_by b g → g ≡ (enrol_meter c eui short counter).state
-      go (found.At i) o = sym (ap (λ (x : Turn Columns). x.state) o)
-      go (found.Refused n) o = sym (ap (λ (x : Turn Columns). x.state) o)
+      go (Ok i) o = sym (ap (λ (x : Turn Columns). x.state) o)
+      go (Err n) o = sym (ap (λ (x : Turn Columns). x.state) o)
 
-  pub taken_shows : (i : ℕ) → a ≡ found.At i → (d : List ℕ) (r : Took) → r ≡ record { used = 14; length = 0; ended = false } → Shows (shown_by (enrol_meter c eui short counter)) d d r
+  pub taken_shows : (i : ℕ) → a ≡ Ok i → (d : List ℕ) (r : Took) → r ≡ record { used = 14; length = 0; ended = false } → Shows (shown_by (enrol_meter c eui short counter)) d d r
   unfolding enrolled_by
   taken_shows i e d r o =
       rw meter_as (rw e (record { used = ap (λ (x : Took). x.used) o; ended = ap (λ (x : Took). x.ended) o; printed = ap (λ (x : Took). put d x.length) o ∙ none_put (put d 0) }))
 
-  pub refused_shows : (n : ℕ) → a ≡ found.Refused n → (d e : List ℕ) (r : Took) → Shows (stops n) d e r → Shows (shown_by (enrol_meter c eui short counter)) d e r
+  pub refused_shows : (n : Refusal) → a ≡ Err n → (d e : List ℕ) (r : Took) → Shows (stops (number_of n)) d e r → Shows (shown_by (enrol_meter c eui short counter)) d e r
   unfolding enrolled_by
   refused_shows n f d e r h = rw meter_as (rw f h)
 

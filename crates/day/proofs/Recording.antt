@@ -39,7 +39,7 @@ module _ (last : Bool) (sum : ℕ) (s d e : List ℕ) (x : Centre) (a : Result E
     shows = h;
   }
 
-  pub record_turned : (t : Entry) → a ≡ Ok t → (y : Centre) (c : Credited) → PlaysFrame replaying x t.station (take (t.from + t.size - t.from) (drop t.from s)) y c → (n : ℕ)
+  pub record_turned : (t : Entry) → a ≡ Ok t → (y : Centre) (c : Option Credited) → PlaysFrame replaying x t.station (take (t.from + t.size - t.from) (drop t.from s)) y c → (n : ℕ)
       → put e n ≡ put_parts (line_of t.station c ∷ []) (put d 0) → (r : Took) → r ≡ record { used = t.from + t.size; length = n; ended = false }
       → Turned x last sum s d y (sum + t.gap) e r
   unfolding record_turn

@@ -9,6 +9,7 @@ use borrow.Author.Tests.{ne_eqb}
 use Rattle.octets.{specs.Choice.either, specs.Bytes.put_at, proofs.Writing.put_upto}
 use Rattle.forms.specs.Code.Put.{Put, put}
 use Rattle.forms.proofs.Putting.{one_in}
+use Rattle.refusal.specs.Number.{number_of}
 use Rattle.meters.specs.Columns.{Columns, columns}
 use Rattle.refusal.specs.Number.{number_of}
 use Rattle.play.specs.Centre.{Centre, centre}
@@ -55,7 +56,7 @@ turn_settled x y z last sum n m s d e f r q a b =
 -- every text is short
 few_enrol : (last : Bool) (c : Columns) (s : List ℕ) (t : Turn Columns) → EnrolWay last c s t → length t.text ≤ 80
 few_enrol last c s t (EnrolWay.taken l d g i h e) = omega arith
-few_enrol last c s t (EnrolWay.refused l d g n h e) = few_refused n
+few_enrol last c s t (EnrolWay.refused l d g n h e) = few_refused (number_of n)
 few_enrol last c s t (EnrolWay.wait d g h) = omega arith
 few_enrol last c s t (EnrolWay.end d) = omega arith
 few_enrol last c s t (EnrolWay.cut d g f h) = few_refused 33

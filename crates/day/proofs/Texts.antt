@@ -1,10 +1,10 @@
 -- The text of a reading's line, part by part, and lines made in a room of 80 bytes: none is longer. Assumes nothing.
 use mathlib.Core.{Path.◌≡◌, Bool.Bool, Bool.true, Bool.false}
 use mathlib.Core.List.{List, [], ◌∷◌, ◌++◌}
+use Rattle.std.specs.Prelude.{Option, Some, None}
 use Prim.Native.Nat.{ℕ, ◌≤◌}
 use native.Mathlib.Omega.{arith}
 use lib.{ListN.length, ListN.take, ListN.length-append}
-use Rattle.octets.specs.Choice.{either}
 use Rattle.forms.specs.Code.Put.{Put, put, put_parts, joined}
 use Rattle.forms.proofs.{Putting.parts_then, Putting.joined_join, Decimals.few_digits, Decimals.joined_each}
 use Rattle.names.specs.Names.{bytes}
@@ -40,24 +40,21 @@ module _ (station eui counter : ℕ) where
     pub reading_made : (o a : Put) → a ≡ put_parts (take v.next v.room ∷ []) o → a ≡ put_parts (reading_line station eui counter ∷ []) o
     reading_made = made_put (reading_parts station eui counter) (reading_line station eui counter) joined_reading few_reading d h v p
 
-module _ (station : ℕ) (r : Credited) where
-  pub new_line : r.is_new ≡ true → (o a : Put) → a ≡ put_parts (reading_line station r.eui r.counter ∷ []) o → a ≡ put_parts (line_of station r ∷ []) o
+module _ (station : ℕ) (r : Option Credited) where
+  pub new_line : (c : Credited) → r ≡ Some c → (o a : Put) → a ≡ put_parts (reading_line station c.eui c.counter ∷ []) o → a ≡ put_parts (line_of station r ∷ []) o
   unfolding line_of
-  new_line n o a q = simp n q
+  new_line c n o a q = simp n q
 
-  pub no_line : r.is_new ≡ false → (o : Put) → o ≡ put_parts (line_of station r ∷ []) o
+  pub no_line : r ≡ None → (o : Put) → o ≡ put_parts (line_of station r ∷ []) o
   unfolding line_of
   no_line n o = simp n (none_put o)
 
 pub ruleset lining = (new_line, no_line)
 
-pub few_line : (station : ℕ) (r : Credited) → length (line_of station r) ≤ 80
+pub few_line : (station : ℕ) (r : Option Credited) → length (line_of station r) ≤ 80
 unfolding line_of
-few_line station r = go r.is_new
-  where
-    go : (b : Bool) → length (either b (λ _. reading_line station r.eui r.counter) (λ _. [])) ≤ 80
-    go true = few_reading station r.eui r.counter
-    go false = omega arith
+few_line station (Some r) = few_reading station r.eui r.counter
+few_line station None = omega arith
 
 joined_refused : (number : ℕ) → joined (counted_parts (bytes "refused ") number) ≡ refused_line number
 unfolding refused_line

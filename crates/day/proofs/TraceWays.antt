@@ -2,6 +2,7 @@
 use mathlib.Core.Path.{◌≡◌, refl, sym, ap, subst, ◌∙◌}
 use mathlib.Core.Bool.{Bool, true, false, ◌&&◌, not, and-false}
 use mathlib.Core.List.{List, [], ◌∷◌}
+use Rattle.std.specs.Prelude.{Option}
 use Prim.Native.Nat.{ℕ, ◌+◌}
 use lib.{Dec.eqb, ListN.length}
 use borrow.Author.Tests.{ne_eqb, eqb-true}
@@ -27,7 +28,7 @@ pub data TraceWay : Bool → Phase → List ℕ → Turn Phase → Type 0 where
   await : (x : Centre) (s : List ℕ) → start_of s ≡ Err InputEnds → TraceWay false (Phase.starting x) s (leaving (Phase.starting x) (passes 0 []))
   fail : (last : Bool) (x : Centre) (s : List ℕ) (k : Refusal) → start_of s ≡ Err k → eqb (number_of k) 33 && not last ≡ false
       → TraceWay last (Phase.starting x) s (leaving (Phase.starting x) (stops (number_of k)))
-  play : (last : Bool) (sum : ℕ) (x y : Centre) (s : List ℕ) (e : Entry) (r : Credited) → entry_of sum s ≡ Ok e → PlaysFrame replaying x e.station (frame_of s e) y r
+  play : (last : Bool) (sum : ℕ) (x y : Centre) (s : List ℕ) (e : Entry) (r : Option Credited) → entry_of sum s ≡ Ok e → PlaysFrame replaying x e.station (frame_of s e) y r
       → TraceWay last (Phase.playing sum x) s (leaving (Phase.playing (sum + e.gap) y) (passes (end_of e) (line_of e.station r)))
   wait : (sum : ℕ) (x : Centre) (s : List ℕ) → entry_of sum s ≡ Err InputEnds → TraceWay false (Phase.playing sum x) s (leaving (Phase.playing sum x) (passes 0 []))
   end : (sum : ℕ) (x : Centre) → TraceWay true (Phase.playing sum x) [] (leaving (Phase.playing sum x) finishes)

@@ -25,9 +25,9 @@ module _ (last : Bool) (k : Refusal) (d e : List ℕ) (r : Took) where
   unfolding refuses
   waiting_shows b f t q = simp (rw f at t) (nothing_shows r 0 false d q)
 
-  pub fault_shows : (b : Bool) → b ≡ eqb (number_of k) 33 → b && not last ≡ false → (n : ℕ) → n ≡ number_of k → Shows (stops n) d e r → Shows (refuses last k) d e r
+  pub fault_shows : (b : Bool) → b ≡ eqb (number_of k) 33 → b && not last ≡ false → Shows (stops (number_of k)) d e r → Shows (refuses last k) d e r
   unfolding refuses
-  fault_shows b f t n g h = simp (rw f at t) (rw g at h)
+  fault_shows b f t h = simp (rw f at t) h
 
   pub end_shows : (len : ℕ) → eqb len 0 && last ≡ true → Shows (refuses_between last len k) d d (record { used = 0; length = 0; ended = true })
   unfolding refuses_between

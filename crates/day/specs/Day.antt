@@ -1,6 +1,6 @@
 -- Document 02, Q-3: a turn over a trace: its first number, then record by record, each played through sessions and table.
 use mathlib.Core.{Path.◌≡◌, Bool.Bool, List.List, List.[]}
-use Rattle.std.specs.Prelude.{ℕ, ◌+◌, length, Result, Ok, Err}
+use Rattle.std.specs.Prelude.{ℕ, ◌+◌, length, Option, Result, Ok, Err}
 use Rattle.refusal.specs.declared.Refusal.{Refusal}
 use Rattle.groups.specs.declared.Number.{Number}
 use Rattle.trace.specs.declared.Entry.{Entry}
@@ -32,7 +32,7 @@ unfoldable pub start_turn : Bool → Centre → List ℕ → Turn Phase
 start_turn last x s = started_by last x (start_of s)
 
 -- a record that is played, and the reading that was new
-unfoldable pub record_turn : ℕ → Entry → Centre → Credited → Turn Phase
+unfoldable pub record_turn : ℕ → Entry → Centre → Option Credited → Turn Phase
 record_turn sum e y r = leaving (Phase.playing (sum + e.gap) y) (passes (end_of e) (line_of e.station r))
 
 -- a fault, or the end
@@ -41,7 +41,7 @@ fault_turn last sum s k x = leaving (Phase.playing sum x) (refuses_between last 
 
 pub data TraceTurn : Bool → Phase → List ℕ → Turn Phase → Type 0 where
   starts : (last : Bool) (x : Centre) (s : List ℕ) → TraceTurn last (Phase.starting x) s (start_turn last x s)
-  plays : (last : Bool) (sum : ℕ) (x y : Centre) (s : List ℕ) (e : Entry) (r : Credited) → entry_of sum s ≡ Ok e
+  plays : (last : Bool) (sum : ℕ) (x y : Centre) (s : List ℕ) (e : Entry) (r : Option Credited) → entry_of sum s ≡ Ok e
       → PlaysFrame replaying x e.station (frame_of s e) y r → TraceTurn last (Phase.playing sum x) s (record_turn sum e y r)
   faults : (last : Bool) (sum : ℕ) (x : Centre) (s : List ℕ) (k : Refusal) → entry_of sum s ≡ Err k → TraceTurn last (Phase.playing sum x) s (fault_turn last sum s k x)
 

@@ -1,12 +1,12 @@
 -- Document 02, Q-3: "A second file, read first, gives enrolments, 14 bytes each: EUI, short address, counter, big endian, at most 1,024 (cut: 33, then EUI twice:
 -- 22, then more: 23)."
 use mathlib.Core.{Bool.Bool, List.List, List.[]}
-use Rattle.std.specs.Prelude.{ℕ}
+use Rattle.std.specs.Prelude.{ℕ, Ok, Err}
+use Rattle.refusal.specs.Number.{number_of}
 use lib.{Dec.leb, ListN.length, ListN.replicate}
 use Rattle.octets.specs.{Choice.either, Number.big_at}
 use Rattle.refusal.specs.declared.Refusal.{TheVariants.InputEnds}
-use Rattle.meters.specs.declared.Found.{Found}
-use Rattle.meters.specs.declared.Found.TheVariants as found
+use Rattle.meters.specs.Answers.{Found}
 use Rattle.meters.specs.Columns.{Columns, columns, Done, enrol_on}
 use Rattle.turns.specs.Turns.{Turn}
 use Rattle.day.specs.Turn.{passes, stops, refuses_between, leaving}
@@ -27,8 +27,8 @@ enrolment_of s c = enrol_on c (big_at s 0 8) (big_at s 8 2) (big_at s 10 4)
 
 -- a row is taken for its meter, or it is refused
 unfoldable pub enrolled_by : Found → Columns → Turn Columns
-enrolled_by (found.At i) c = leaving c (passes enrolment_size [])
-enrolled_by (found.Refused n) c = leaving c (stops n)
+enrolled_by (Ok i) c = leaving c (passes enrolment_size [])
+enrolled_by (Err r) c = leaving c (stops (number_of r))
 
 unfoldable pub enrol_turn : Bool → Columns → List ℕ → Turn Columns
 enrol_turn last c s =

@@ -10,13 +10,13 @@ ghost use Rattle.refusal.specs.Number.{number_of};
 ghost use Rattle.refusal.specs.declared.Refusal.TheVariants.{InputEnds};
 ghost use Rattle.octets.specs.Number.{big_at};
 ghost use Rattle.forms.specs.Code.Put.{Put, put, put_parts};
-ghost use Rattle.meters.specs.Columns.{Columns, columns};
+ghost use Rattle.meters.specs.{Columns.Columns, Lent.enrolled_in, Lent.credited_in, Lent.StillEnrols, Lent.StillCredits};
 ghost use Rattle.play.specs.Centre.{Centre, centre};
 ghost use Rattle.lines.specs.Turn.{Shows};
 ghost use Rattle.day.specs.{Lines.reading_line, Lines.line_of, Lines.refused_line, Turn.stops, Turn.refuses, Turn.refuses_between, Turn.shown_by, Enrolments.enrol_turn, Code.Meter.enrol_meter, Day.start_turn, Day.Turned};
 
 use lines::Took;
-use meters::Found;
+use meters::{Credits, Enrols};
 use play::Credited;
 use refusal::Refusal;
 
@@ -39,28 +39,18 @@ pub struct Enrolment {
 }
 
 // One enrolment; 33, 22, 23.
-pub fn enrol(
-    bytes: &[u8],
-    last: bool,
-    used: &mut [u8],
-    euis: &mut [u64],
-    shorts: &mut [u16],
-    lasts: &mut [u32],
-    heards: &mut [u64],
-    room: &mut [u8],
-) -> Took
-    ensures shows { Shows (shown_by (enrol_turn last (columns used.old euis.old shorts.old lasts.old heards.old) bytes.now))
+pub fn enrol(bytes: &[u8], last: bool, table: &mut Enrols, room: &mut [u8]) -> Took
+    ensures shows { Shows (shown_by (enrol_turn last (enrolled_in table.old) bytes.now))
         room.old room.new result }
-    ensures table { ◌≡◌ {A = Columns} (columns used.new euis.new shorts.new lasts.new heards.new)
-        (enrol_turn last (columns used.old euis.old shorts.old lasts.old heards.old) bytes.now).state }
+    ensures table { ◌≡◌ {A = Columns} (enrolled_in table.new)
+        (enrol_turn last (enrolled_in table.old) bytes.now).state }
+    ensures lent { StillEnrols table.old table.new }
 {
     if bytes.len() < ENROLMENT {
         return between(room, bytes.len(), last, Refusal::InputEnds);
     }
     let e = enrolment_of(bytes);
-    enrol_meter(
-        used, euis, shorts, lasts, heards, e.eui, e.short, e.counter, room,
-    )
+    enrol_meter(table, e, room)
 }
 
 // The enrolment at the start of the bytes.
@@ -75,26 +65,16 @@ fn enrolment_of(bytes: &[u8]) -> Enrolment
     }
 }
 
-fn enrol_meter(
-    used: &mut [u8],
-    euis: &mut [u64],
-    shorts: &mut [u16],
-    lasts: &mut [u32],
-    heards: &mut [u64],
-    eui: u64,
-    short: u16,
-    counter: u32,
-    room: &mut [u8],
-) -> Took
-    ensures shows { Shows (shown_by (enrol_meter (columns used.old euis.old shorts.old lasts.old heards.old) eui short counter))
+fn enrol_meter(table: &mut Enrols, e: Enrolment, room: &mut [u8]) -> Took
+    ensures shows { Shows (shown_by (enrol_meter (enrolled_in table.old) e.eui e.short e.counter))
         room.old room.new result }
-    ensures table { ◌≡◌ {A = Columns} (columns used.new euis.new shorts.new lasts.new heards.new)
-        (enrol_meter (columns used.old euis.old shorts.old lasts.old heards.old) eui short counter).state }
+    ensures table { ◌≡◌ {A = Columns} (enrolled_in table.new)
+        (enrol_meter (enrolled_in table.old) e.eui e.short e.counter).state }
+    ensures lent { StillEnrols table.old table.new }
 {
-    let answer = meters::enrol(used, euis, shorts, lasts, heards, eui, short, counter);
-    match answer {
-        Found::At(_) => passed(ENROLMENT, 0),
-        Found::Refused(n) => stopped(room, n),
+    match table.enrol(e.eui, e.short, e.counter) {
+        Ok(_) => passed(ENROLMENT, 0),
+        Err(r) => stopped(room, r),
     }
 }
 
@@ -115,17 +95,14 @@ pub fn turn(
     last: bool,
     sum: &mut u64,
     sessions: &mut [u8; SESSIONS],
-    used: &[u8],
-    euis: &[u64],
-    shorts: &[u16],
-    lasts: &mut [u32],
-    heards: &mut [u64],
+    table: &mut Credits,
     room: &mut [u8],
 ) -> Took
-    ensures { Turned (centre sessions.old (columns used.now euis.now shorts.now lasts.old heards.old))
+    ensures turned { Turned (centre sessions.old (credited_in table.old))
         last sum.old bytes.now room.old
-        (centre sessions.new (columns used.now euis.now shorts.now lasts.new heards.new))
+        (centre sessions.new (credited_in table.new))
         sum.new room.new result }
+    ensures lent { StillCredits table.old table.new }
 {
     let e = match trace::read(bytes, *sum) {
         Ok(e) => e,
@@ -133,16 +110,7 @@ pub fn turn(
     };
     let from = e.from;
     let end = from + e.size;
-    let reading = play::play_frame(
-        sessions,
-        used,
-        euis,
-        shorts,
-        lasts,
-        heards,
-        e.station,
-        &bytes[from..end],
-    );
+    let reading = play::play_frame(sessions, table, e.station, &bytes[from..end]);
     *sum = *sum + e.gap;
     let length = line(room, e.station, reading);
     passed(end, length)
@@ -169,7 +137,7 @@ fn refused(room: &mut [u8], last: bool, refusal: Refusal) -> Took
     if is_end(refusal) & !last {
         return passed(0, 0);
     }
-    stopped(room, refusal.number())
+    stopped(room, refusal)
 }
 
 // Whether the input ends inside what is read.
@@ -189,8 +157,8 @@ fn passed(used: usize, length: usize) -> Took
     }
 }
 
-fn stopped(room: &mut [u8], refusal: u8) -> Took
-    ensures { Shows (stops refusal) room.old room.new result }
+fn stopped(room: &mut [u8], refusal: Refusal) -> Took
+    ensures { Shows (stops (number_of refusal)) room.old room.new result }
 {
     let length = stop(room, refusal);
     Took {
@@ -201,13 +169,13 @@ fn stopped(room: &mut [u8], refusal: u8) -> Took
 }
 
 // A reading that is new is a line.
-fn line(room: &mut [u8], station: u64, reading: Credited) -> usize
+fn line(room: &mut [u8], station: u64, reading: Option<Credited>) -> usize
     ensures { ◌≡◌ {A = Put} (put room.new result) (put_parts (line_of station reading ∷ []) (put room.old 0)) }
 {
-    if reading.is_new {
-        return new_line(room, station, reading.eui, reading.counter as u64);
+    match reading {
+        Some(r) => new_line(room, station, r.eui, u64::from(r.counter)),
+        None => 0,
     }
-    0
 }
 
 // A line is made in a room of its own and put into the lent one where it has place.
@@ -219,10 +187,10 @@ fn new_line(room: &mut [u8], station: u64, eui: u64, counter: u64) -> usize
     forms::put_run(room, 0, &text[..n])
 }
 
-fn stop(room: &mut [u8], refusal: u8) -> usize
-    ensures { ◌≡◌ {A = Put} (put room.new result) (put_parts (refused_line refusal ∷ []) (put room.old 0)) }
+fn stop(room: &mut [u8], refusal: Refusal) -> usize
+    ensures { ◌≡◌ {A = Put} (put room.new result) (put_parts (refused_line (number_of refusal) ∷ []) (put room.old 0)) }
 {
     let mut text = [0u8; 80];
-    let n = lines::put_counted(&mut text, 0, b"refused ", refusal as u64);
+    let n = lines::put_counted(&mut text, 0, b"refused ", u64::from(refusal.number()));
     forms::put_run(room, 0, &text[..n])
 }

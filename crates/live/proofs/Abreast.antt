@@ -15,6 +15,7 @@ use Rattle.record.proofs.Answers.{one_answer, read_writes}
 use Rattle.session.proofs.Image.{tested}
 use Rattle.meters.specs.Columns.{Columns}
 use Rattle.steps.specs.Called.{begin_on, lost_session}
+use Rattle.std.specs.Prelude.{Option}
 use Rattle.play.specs.declared.Credited.{Credited}
 use Rattle.play.specs.Play.{Lends, play_of, scratch}
 use Rattle.play.specs.Centre.{Centre, centre, session_of, with_session, PlaysFrame}
@@ -90,7 +91,7 @@ module _ (down : ℕ → Bool) (x w : Centre) (a : Abreast down x w) (k : ℕ) (
           go false f = refl
 
   -- a frame is heard, whatever is lent at both
-  module _ (lends others : Lends) (lawful : Lawful lends) (also : Lawful others) (frame : List ℕ) (y v : Centre) (r t : Credited)
+  module _ (lends others : Lends) (lawful : Lawful lends) (also : Lawful others) (frame : List ℕ) (y v : Centre) (r t : Option Credited)
       (p : PlaysFrame lends x k frame y r) (q : PlaysFrame others w k frame v t)
       (only : down k ≡ true → is_read p.plays.answer ≡ true → is_con p.plays.answer ≡ true)
       (unnamed : is_naming p.plays.answer ≡ true → has_started live ≡ false) where
@@ -113,7 +114,7 @@ module _ (down : ℕ → Bool) (x w : Centre) (a : Abreast down x w) (k : ℕ) (
     agree =
         subst₂ (Agree after) (sym p.plays.same) (sym second)
         (play_agree x.table k lends others lawful also (down k) live again (a.each k h)
-        answer (λ e. read_writes payload scratch answer p.plays.meant (eqb-true answer.told.refusal 0 e)) only unnamed)
+        answer (read_writes payload scratch answer p.plays.meant) only unnamed)
 
     pub same_reading : r ≡ t
     same_reading = p.reading ∙ agree.reading ∙ sym q.reading

@@ -6,9 +6,11 @@ use mathlib.Core.List.{List}
 use Prim.Native.Nat.{ℕ}
 use lib.Dec.{eqb}
 use Rattle.octets.specs.Choice.{either}
-use Rattle.octets.proofs.{Ranges.true_false, Truth.both}
+use Rattle.octets.proofs.Ranges.{true_false}
 use Rattle.names.specs.Names.{bytes, command_of}
-use Rattle.record.specs.declared.{UlData.UlData, Body.Body, Message.Message}
+use Rattle.std.specs.Prelude.{Result, Ok, Err}
+use Rattle.refusal.specs.declared.Broken.{Broken}
+use Rattle.record.specs.declared.{UlData.UlData, Body.Body, Message.Message, Counted.Counted}
 use Rattle.record.specs.{Record.command_in, Fits.fits, Meant.Answered}
 use Rattle.session.specs.{Arrive.con_in, Image.session_at}
 use Rattle.meters.specs.Columns.{Columns}
@@ -84,19 +86,18 @@ module _ (c : Columns) (k : ℕ) where
     as_before true = refl
     as_before false = refl
 
-    pub play_agree : (a : Answered) → (is_read a ≡ true → fits a.told.message a.lent ≡ true) → (down ≡ true → is_read a ≡ true → is_con a ≡ true)
-        → (is_naming a ≡ true → has_started d ≡ false) → Agree (down && not (is_con a)) (play_of h d c k a) (play_of g e c k a)
-    unfolding play_of
-    play_agree a f n q = go (is_read a) refl
-      where
-        m : Message
-        m = a.told.message
+    abbrev answered : Result Counted Broken → List ℕ → Answered
+    answered t lent = record { told = t; lent = lent }
 
-        go : (r : Bool) → is_read a ≡ r
-            → Agree (down && not (r && con m.body))
-            (either r (λ _. after_arrival c k m.body (arrival h d m a.lent)) (λ _. played d c no_reading))
-            (either r (λ _. after_arrival c k m.body (arrival g e m a.lent)) (λ _. played e c no_reading))
-        go true t =
-            let only : down ≡ true → con m.body ≡ true = λ u. (both (is_read a) (con m.body) (n u t)).1 in
-            agree_as (now_up down (con m.body) only) (read_agree m a.lent (f t) only (λ u. q (simp (t, u))))
-        go false t = agree_as (as_before down) (record { sessions = s; table = refl; reading = refl })
+    by_told : (t : Result Counted Broken) (lent : List ℕ) → ((x : Counted) → t ≡ Ok x → fits x.message lent ≡ true)
+        → (down ≡ true → is_read (answered t lent) ≡ true → is_con (answered t lent) ≡ true) → (is_naming (answered t lent) ≡ true → has_started d ≡ false)
+        → Agree (down && not (is_con (answered t lent))) (play_of h d c k (answered t lent)) (play_of g e c k (answered t lent))
+    unfolding play_of
+    by_told (Ok x) lent f n q =
+        let only : down ≡ true → con x.message.body ≡ true = λ u. n u refl in
+        agree_as (now_up down (con x.message.body) only) (read_agree x.message lent (f x refl) only q)
+    by_told (Err b) lent f n q = agree_as (as_before down) (record { sessions = s; table = refl; reading = refl })
+
+    pub play_agree : (a : Answered) → ((x : Counted) → a.told ≡ Ok x → fits x.message a.lent ≡ true) → (down ≡ true → is_read a ≡ true → is_con a ≡ true)
+        → (is_naming a ≡ true → has_started d ≡ false) → Agree (down && not (is_con a)) (play_of h d c k a) (play_of g e c k a)
+    play_agree a f n q = by_told a.told a.lent f n q

@@ -1,7 +1,7 @@
 -- Document 02, Q-3: the trace that a host recorded of its day, replayed from the same enrolments, prints the readings that the host credited, in their order,
 -- and leaves the host's table. By induction over the records, and by the law of a day's credits. Assumes nothing.
 use mathlib.Core.Path.{◌≡◌, refl, sym, ap, subst, subst₂, ◌∙◌}
-use mathlib.Core.Bool.{Bool, true, false, ◌&&◌}
+use mathlib.Core.Bool.{true, false, ◌&&◌}
 use mathlib.Core.List.{List, [], ◌∷◌, ◌++◌}
 use Prim.Native.Nat.{ℕ, ◌+◌}
 use Rattle.octets.specs.Choice.{either}
@@ -13,31 +13,28 @@ use Rattle.trace.specs.Write.{record_bytes}
 use Rattle.trace.specs.Trace.{Arrival, records_bytes, trace_bytes, are_records}
 use Rattle.trace.proofs.Whole.{start_reads}
 use Rattle.trace.proofs.Records.{entry_for, record_reads, record_frame, record_rest}
+use Rattle.std.specs.Prelude.{Option, Some, None}
 use Rattle.play.specs.declared.Credited.{Credited}
 use Rattle.play.specs.Play.{replaying}
 use Rattle.play.specs.Centre.{Centre, PlaysFrame}
-use Rattle.day.specs.Lines.{line_of, reading_line}
+use Rattle.day.specs.Lines.{line_of}
 use Rattle.day.specs.{Enrolments.empty_table, Replay.Enrols, Replay.Replays, Replay.ReplaysTrace, Replay.daybreak, Replay.Prints}
 use Rattle.live.specs.Live.{Event, Bill, billed, Lives, Frame, heard, PlaysAll}
 use Rattle.live.specs.Recorded.{frames_of, lines_of}
 use Rattle.live.proofs.{Zeros.new_fresh, Settled.plays_all, Settled.first, Settled.none_left, Replayed.replay_credits}
 
 -- a reading that is new has a line in front of the others
-lines_of_lem : (k : ℕ) (r : Credited) (bs : List Bill) → lines_of (billed k r bs) ≡ line_of k r ++ lines_of bs
+lines_of_lem : (k : ℕ) (r : Option Credited) (bs : List Bill) → lines_of (billed k r bs) ≡ line_of k r ++ lines_of bs
 unfolding lines_of line_of
-lines_of_lem k r bs = go r.is_new
-  where
-    go : (t : Bool) → lines_of (either t (λ _. record { station = k; eui = r.eui; counter = r.counter } ∷ bs) (λ _. bs))
-        ≡ either t (λ _. reading_line k r.eui r.counter) (λ _. []) ++ lines_of bs
-    go true = refl
-    go false = refl
+lines_of_lem k (Some r) bs = refl
+lines_of_lem k None bs = refl
 
 -- one record in front of others
 module _ (sum : ℕ) (a : Arrival) (time : is_time (sum + a.gap) ≡ true) (known : is_station a.station ≡ true) (whole : is_one_frame a.frame ≡ true) (t : List ℕ) where
   abbrev s : List ℕ
   s = record_bytes a.gap a.station a.frame ++ t
 
-  one_plays : (x y z : Centre) (r : Credited) (out : List ℕ) → PlaysFrame replaying x a.station a.frame y r → Replays (sum + a.gap) y t out z
+  one_plays : (x y z : Centre) (r : Option Credited) (out : List ℕ) → PlaysFrame replaying x a.station a.frame y r → Replays (sum + a.gap) y t out z
       → Replays sum x s (line_of a.station r ++ out) z
   one_plays x y z r out p q =
       Replays.plays sum x y z s out (entry_for a.gap a.station a.frame) r (record_reads sum a.gap a.station a.frame time known whole t)

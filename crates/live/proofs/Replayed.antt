@@ -6,6 +6,7 @@ use mathlib.Core.List.{List}
 use Prim.Native.Nat.{ℕ, ◌<◌}
 use Rattle.octets.specs.Choice.{either}
 use Rattle.session.specs.{Centre.lost, Image.session_at}
+use Rattle.std.specs.Prelude.{Option}
 use Rattle.play.specs.declared.Credited.{Credited}
 use Rattle.play.specs.{Play.replaying, Centre.Centre, Centre.session_of}
 use Rattle.live.specs.Live.{Event, Bill, billed, is_con, for, Lives, heard, PlaysAll, Fresh}
@@ -42,7 +43,7 @@ stays_alike down x w y z es bs cs a (Lives.hears down' x' next z' k frame h fs d
     let b = frame_abreast down x w a k lt h replaying lawful replaying_lawful frame next f.after r f.reading p f.plays only unnamed in
     let s = same_reading down x w a k lt h replaying lawful replaying_lawful frame next f.after r f.reading p f.plays only unnamed in
     let o = stays_alike (for down k (down k && not (is_con p.plays.answer))) next f.after y z fs ds f.others b rest f.all in
-    (ap₂ (λ (t : Credited) (l : List Bill). billed k t l) s o.0 ∙ sym f.bills, o.1)
+    (ap₂ (λ (t : Option Credited) (l : List Bill). billed k t l) s o.0 ∙ sym f.bills, o.1)
 stays_alike down x w y z es bs cs a (Lives.loses down' x' z' k fs ds lt rest) q =
     stays_alike (for down k true) _ w y z fs bs cs (loss_abreast down x w a k lt) rest q
 stays_alike down x w y z es bs cs a (Lives.begins down' x' z' k m lent room fs ds lt rest) q =

@@ -1,6 +1,7 @@
 -- Recorded frames, played again, have one result and no second. By play's law of one frame. Assumes nothing.
 use mathlib.Core.Path.{◌≡◌, refl, sym, ap₂, subst, ◌∙◌}
 use mathlib.Core.List.{List, [], ◌∷◌}
+use Rattle.std.specs.Prelude.{Option}
 use Rattle.play.specs.declared.Credited.{Credited}
 use Rattle.play.specs.{Play.replaying, Centre.Centre, Centre.PlaysFrame}
 use Rattle.play.proofs.Settled.{frame_told, centre_once, reading_once}
@@ -16,7 +17,7 @@ plays_all x (f ∷ l) =
 -- the first frame, and the others
 pub record First (x : Centre) (f : Frame) (l : List Frame) (bs : List Bill) (z : Centre) : Type 0 where
   pub after : Centre
-  pub reading : Credited
+  pub reading : Option Credited
   pub others : List Bill
   pub plays : PlaysFrame replaying x f.station f.frame after reading
   pub all : PlaysAll after l others z
@@ -39,4 +40,4 @@ plays_all_once x y z (f ∷ l) bs cs p q =
     let e = centre_once replaying x f.station f.frame a.after b.after a.reading b.reading a.plays b.plays in
     let r = reading_once replaying x f.station f.frame a.after b.after a.reading b.reading a.plays b.plays in
     let o = plays_all_once b.after y z l a.others b.others (subst (λ (w : Centre). PlaysAll w l a.others y) e a.all) b.all in
-    (a.bills ∙ ap₂ (λ (t : Credited) (ds : List Bill). billed f.station t ds) r o.0 ∙ sym b.bills, o.1)
+    (a.bills ∙ ap₂ (λ (t : Option Credited) (ds : List Bill). billed f.station t ds) r o.0 ∙ sym b.bills, o.1)

@@ -1,12 +1,12 @@
 -- Document 02, Q-3: "Each step gives the state of those live calls." A day at a live host, and its frames played again.
 use mathlib.Core.{Path.◌≡◌, Bool.Bool, Bool.true, Bool.false, Bool.◌&&◌, Bool.not}
-use Rattle.std.specs.Prelude.{ℕ, ◌*◌, ◌≤◌, ◌<◌, ◌^◌, List, [], ◌∷◌}
-use Rattle.std.proofs.Math.Option.{Option, some, none}
+use Rattle.std.specs.Prelude.{ℕ, ◌*◌, ◌≤◌, ◌<◌, ◌^◌, List, [], ◌∷◌, Option, Some, None, is_ok}
+use Rattle.std.proofs.Math.Option as maybe
 use lib.{Dec.eqb, IntN.pos, ListN.length}
 use Rattle.octets.specs.{Choice.either, Bytes.IsBytes}
 use Rattle.names.specs.Names.{bytes, command_of}
 use Rattle.record.specs.declared.{Con.Con, Message.Message}
-use Rattle.record.specs.{Record.command_in, Meant.Answered}
+use Rattle.record.specs.{Record.command_in, Meant.Answered, Meant.message_told}
 use Rattle.session.specs.{Arrive.is_below, Arrive.lowest_of, Arrive.con_in, Image.session_size, Image.session_at, Image.is_session}
 use Rattle.steps.specs.Called.{lost_session, begin_on}
 use Rattle.play.specs.declared.Credited.{Credited}
@@ -34,26 +34,27 @@ pub record Bill : Type 0 where
   pub eui : ℕ
   pub counter : ℕ
 
-abbrev pub billed : ℕ → Credited → List Bill → List Bill
-billed k r bs = either r.is_new (λ _. record { station = k; eui = r.eui; counter = r.counter } ∷ bs) (λ _. bs)
+abbrev pub billed : ℕ → Option Credited → List Bill → List Bill
+billed k (Some r) bs = record { station = k; eui = r.eui; counter = r.counter } ∷ bs
+billed k None bs = bs
 
 -- whether a payload is read, and whether it is a con
 abbrev pub is_read : Answered → Bool
-is_read a = eqb a.told.refusal 0
+is_read a = is_ok a.told
 
 abbrev pub is_con : Answered → Bool
-is_con a = is_read a && eqb (command_in a.told.message.body) (command_of (bytes "con"))
+is_con a = is_read a && eqb (command_in (message_told a.told).body) (command_of (bytes "con"))
 
 -- whether a payload is a con that names an operation of the centre's: an snScOpId below 0. It resumes only where the centre started that one, and a replay starts none
 abbrev pub names_own : Con → Bool
 names_own x = x.sn_sc_op_id.here && is_below x.sn_sc_op_id.value (pos 0)
 
-abbrev pub con_names : Option Con → Bool
-con_names none = false
-con_names (some x) = names_own x
+abbrev pub con_names : maybe.Option Con → Bool
+con_names maybe.none = false
+con_names (maybe.some x) = names_own x
 
 abbrev pub is_naming : Answered → Bool
-is_naming a = is_read a && con_names (con_in a.told.message.body)
+is_naming a = is_read a && con_names (con_in (message_told a.told).body)
 
 -- whether the centre started an operation in the session in these bytes
 abbrev pub has_started : List ℕ → Bool
@@ -67,7 +68,7 @@ for down k b j = either (eqb j k) (λ _. b) (λ _. down j)
 -- is read is a con. The centre may start operations at any time; a con that names one comes to no session in which it did
 pub data Lives : (ℕ → Bool) → Centre → List Event → List Bill → Centre → Type 0 where
   done : (down : ℕ → Bool) (x : Centre) → Lives down x [] [] x
-  hears : (down : ℕ → Bool) (x y z : Centre) (k : ℕ) (frame : List ℕ) (h : Lends) (es : List Event) (bs : List Bill) (r : Credited) → k < stations → Lawful h
+  hears : (down : ℕ → Bool) (x y z : Centre) (k : ℕ) (frame : List ℕ) (h : Lends) (es : List Event) (bs : List Bill) (r : Option Credited) → k < stations → Lawful h
       → (p : PlaysFrame h x k frame y r) → (down k ≡ true → is_read p.plays.answer ≡ true → is_con p.plays.answer ≡ true)
       → (is_naming p.plays.answer ≡ true → has_started (session_of x.sessions k) ≡ false)
       → Lives (for down k (down k && not (is_con p.plays.answer))) y es bs z → Lives down x (Event.hears k frame h ∷ es) (billed k r bs) z
@@ -91,7 +92,7 @@ heard (Event.begins k m lent room ∷ es) = heard es
 -- these frames played again, and the readings that are new
 pub data PlaysAll : Centre → List Frame → List Bill → Centre → Type 0 where
   done : (x : Centre) → PlaysAll x [] [] x
-  plays : (x y z : Centre) (f : Frame) (l : List Frame) (bs : List Bill) (r : Credited) → PlaysFrame replaying x f.station f.frame y r → PlaysAll y l bs z
+  plays : (x y z : Centre) (f : Frame) (l : List Frame) (bs : List Bill) (r : Option Credited) → PlaysFrame replaying x f.station f.frame y r → PlaysAll y l bs z
       → PlaysAll x (f ∷ l) (billed f.station r bs) z
 
 -- where a day may begin: the bytes of 64 sessions, whatever their states, in which the centre started nothing

@@ -5,7 +5,8 @@ use mathlib.Core.Path.{◌≡◌, refl, sym, ap₂, ◌∙◌}
 use mathlib.Core.{Bool.false, List.List}
 use lib.ListN.{length, get_or, set, length-set}
 use lib.Seq.{get_or-set_other}
-use Rattle.meters.specs.declared.{Row.Row, Found.Found, Credit.Credit}
+use Rattle.meters.specs.Answers.{Found, Uplinked}
+use Rattle.meters.specs.declared.Row.{Row}
 use Rattle.meters.specs.Rows.{is_free_row, is_mark, is_meter, enrolled, withdrawn, hear_of}
 use Rattle.meters.specs.Table.{Left, no_row, meter_at, free_at, find_in, enrol_in, withdraw_in, uplink_in}
 use Rattle.meters.proofs.{Truth.of_meter, Truth.other_eui, Scan.first_passes, Scan.first_set, Scan.first_apart}
@@ -61,7 +62,7 @@ module _ (rows : List Row) (x y : ℕ) (differ : x ≡ y → ⊥) where
       let r = get_or rows (meter_at rows x) no_row in
       let keeps : is_meter y (hear_of (meter_at rows x) r n s).row ≡ is_meter y r
       = ap₂ (λ (u w : ℕ). is_mark u w y) (hear_keeps (meter_at rows x) r n s (λ (z : Row). z.used) (λ m h. refl)) (hear_keeps (meter_at rows x) r n s (λ (z : Row). z.eui) (λ m h. refl)) in
-      uplink_cases rows x n s (λ (l : Left Credit). Apart rows l.rows y)
+      uplink_cases rows x n s (λ (l : Left Uplinked). Apart rows l.rows y)
       (λ l. same rows y)
       (λ l m. same rows y)
       (λ l m. set_apart rows y (meter_at rows x) (hear_of (meter_at rows x) r n s).row m (not_y m) (keeps ∙ not_y m))

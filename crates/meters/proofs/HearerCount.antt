@@ -10,9 +10,11 @@ use lib.{Dec.eqb, Dec.ltb, Dec.lit<, ListN.length, ListN.get_or, ListN.length-ap
 use lib.Bits.{bit_or, or_shr, or_mod, or_zero_r, shifted_even}
 use lib.Pow.{pow_pos, pow-add, pow-lt, shl-shr}
 use borrow.Author.Tests.{lt-ltb, le-ltb, eq-eqb, ne_eqb, ltb-true, ltb-false, eqb-true, eqb-false}
+use Rattle.refusal.specs.declared.Refusal.TheVariants.{UnequalColumns}
+use Rattle.std.specs.Prelude.{Err}
+use Rattle.meters.specs.Answers.{Uplinked}
 use Rattle.meters.specs.Stations.{numbers_to, passing, hears, stations, hearers, nobody, alone, with_hearer}
 use Rattle.meters.specs.declared.{Row.Row, Heard.Heard}
-use Rattle.meters.specs.declared.Credit.{Credit, TheVariants.Refused}
 use Rattle.meters.specs.{Rows.hear_of, Answers.credit_refusal_of, Answers.hearers_of}
 use Rattle.meters.specs.Table.{Left, no_row, meter_at, uplink_in}
 use Rattle.meters.specs.Columns.{Columns, table_rows, columns_of, even, told_credit, uplink_on}
@@ -189,8 +191,8 @@ answer_at_most_64 c x n s = by (even c)
 
     call : (rows : List Row) → hearers_of (uplink_in rows x n s).answer ≤ 64
     call rows =
-        uplink_cases rows x n s (λ (l : Left Credit). hearers_of l.answer ≤ 64) (λ l. omega arith) (λ l m. omega arith) (λ l m. packet (meter_at rows x) (get_or rows (meter_at rows x) no_row))
+        uplink_cases rows x n s (λ (l : Left Uplinked). hearers_of l.answer ≤ 64) (λ l. omega arith) (λ l m. omega arith) (λ l m. packet (meter_at rows x) (get_or rows (meter_at rows x) no_row))
 
-    by : (b : Bool) → (cond b (told_credit (uplink_in (table_rows c) x n s).answer (columns_of (uplink_in (table_rows c) x n s).rows)) (told_credit (Refused 24) c)).hearers ≤ 64
+    by : (b : Bool) → (cond b (told_credit (uplink_in (table_rows c) x n s).answer (columns_of (uplink_in (table_rows c) x n s).rows)) (told_credit (Err UnequalColumns) c)).hearers ≤ 64
     by true = call (table_rows c)
     by false = omega arith

@@ -1,21 +1,24 @@
 -- Columns hold rows: as many rows as a column has entries, row i is entry i of each, and the columns of the rows are the columns again. A row that changes
 -- changes one entry of each column. Entry by entry. Assumes nothing.
 use Prim.Native.Nat.{ℕ, zero, suc, ◌+◌, ◌≤◌, ◌<◌}
-use mathlib.Core.Path.{◌≡◌, refl, sym, ap, ◌∙◌}
-use mathlib.Core.Bool.{Bool, true, false}
+use mathlib.Core.Path.{◌≡◌, refl, sym, ap, ap₂, ◌∙◌}
+use mathlib.Core.Bool.{Bool, true, false, not, cond}
+use Rattle.std.specs.Prelude.{Option, Some, None, zip}
+use Rattle.std.specs.List.{position_or_len}
+use Rattle.std.proofs.lemmas.Slice.Zip.{length-zip, get_or-zip}
 use mathlib.Core.List.{List, [], ◌∷◌, ◌++◌, map}
 use native.Mathlib.Numerals.{add-one}
-use native.Mathlib.Nat.{le_of_suc-le-suc}
+use native.Mathlib.Nat.{zero-lt-suc, le_of_suc-le-suc}
 use native.Mathlib.Omega.{arith}
 use lib.{Dec.eqb, Dec.ltb, Seq.ext_get_or, Seq.get_or_at}
 use lib.ListN.{length, get_or, set, length-append, length-map, get_or-append}
 use borrow.Author.Tests.{eq-eqb, eqb-true, ltb-true, ltb-false}
 use Rattle.meters.specs.declared.Row.{Row}
-use Rattle.meters.specs.{Stations.numbers_to, Rows.is_free_row, Rows.is_meter}
+use Rattle.meters.specs.{Stations.numbers_to, Rows.is_free_row, Rows.is_mark, Rows.is_meter}
 use Rattle.meters.specs.Table.{no_row, first, meter_at, free_at}
 use Rattle.meters.specs.Columns.{Columns, columns, row_at, table_rows, columns_of, same_lengths, even}
 use Rattle.meters.specs.Code.Store.{meter_place, free_row, put_row, Even}
-use Rattle.meters.proofs.{Truth.both, Scan.first_is, Scan.first_none, Scan.first_same}
+use Rattle.meters.proofs.Truth.{both}
 
 length_below : (n : ℕ) → length (numbers_to n) ≡ n
 unfolding numbers_to
@@ -106,33 +109,61 @@ module _ (c : Columns) where
         (map_set (λ (x : Row). x.last) (table_rows c) i r ∙ ap (λ (d : Columns). set d.lasts i r.last) columns_back)
         (map_set (λ (x : Row). x.heard) (table_rows c) i r ∙ ap (λ (d : Columns). set d.heards i r.heard) columns_back)
 
-  -- the scan of a table whose rows are held in columns
-  pub scan_is : (t : Row → Bool) (i : ℕ) → ((k : ℕ) → k < i → t (row_at c k) ≡ false) → i < length c.used → t (row_at c i) ≡ true → i ≡ first t (table_rows c)
-  scan_is t i b h e =
-      first_is t (table_rows c) i
-      (λ k g. ap t (row_at_lem k (omega arith)) ∙ b k g)
-      (rw length_rows h)
-      (ap t (row_at_lem i h) ∙ e)
+-- ---- the library's searches find the row
+-- a list whose entries pass a test where the rows do
+first_position : {A : Type 0} (t : Row → Bool) (p : A → Bool) (d : A) (rows : List Row) (l : List A) → length l ≡ length rows
+    → ((i : ℕ) → i < length rows → t (get_or rows i no_row) ≡ p (get_or l i d)) → first t rows ≡ position_or_len p l
+unfolding first
+first_position t p d [] [] n e = refl
+first_position t p d [] (a ∷ l) n e = absurd (omega (arith, n))
+first_position t p d (r ∷ rows) [] n e = absurd (omega (arith, n))
+first_position t p d (r ∷ rows) (a ∷ l) n e =
+    ap (λ (b : Bool). cond b 0 (suc (first t rows))) (e 0 (zero-lt-suc (length rows)))
+    ∙ by (p a) (first_position t p d rows l (omega (arith, n)) (λ i h. e (suc i) (omega arith)))
+  where
+    by : (b : Bool) → first t rows ≡ position_or_len p l → cond b 0 (suc (first t rows)) ≡ cond (not b) (1 + position_or_len p l) 0
+    by true f = refl
+    by false f = omega (arith, f)
 
-  pub scan_none : (t : Row → Bool) (i : ℕ) → ((k : ℕ) → k < i → t (row_at c k) ≡ false) → i ≡ length c.used → i ≡ first t (table_rows c)
-  scan_none t i b e =
-      e ∙ sym length_rows
-      ∙ first_none t (table_rows c) (λ k g.
-      let h : k < length c.used = rw length_rows at g in
-      ap t (row_at_lem k h) ∙ b k (omega arith))
+-- what a search answers of a place i in a table of n rows
+abbrev pub place_in : ℕ → ℕ → Option ℕ
+place_in n i = cond (ltb i n) (Some i) None
 
-  -- a scan looks at what the test reads: another row of the same columns' entries passes as this one does
-  scan_of : (d : Columns) (t : Row → Bool) → d.used ≡ c.used → ((i : ℕ) → t (row_at d i) ≡ t (row_at c i)) → first t (table_rows d) ≡ first t (table_rows c)
-  unfolding table_rows
-  scan_of d t e f = ap (λ (u : List ℕ). first t (map (row_at d) (numbers_to (length u)))) e ∙ same_scan (numbers_to (length c.used))
+module _ (n i : ℕ) where
+  pub none_in : None ≡ place_in n i → n ≤ i
+  none_in e = by (ltb i n) refl e
     where
-      same_scan : (l : List ℕ) → first t (map (row_at d) l) ≡ first t (map (row_at c) l)
-      same_scan l = first_same t (row_at d) (row_at c) f l
+      by : (b : Bool) → ltb i n ≡ b → ◌≡◌ {A = Option ℕ} None (cond b (Some i) None) → n ≤ i
+      by true p q = let z : ◌≡◌ {A = ℕ} 0 1 = cc in absurd (omega arith)
+      by false p q = ltb-false i n p
 
-  pub meter_of : (x : ℕ) → meter_place c.used c.euis x ≡ meter_at (table_rows c) x
+  pub some_in : (k : ℕ) → Some k ≡ place_in n i → (k ≡ i) × (k < n)
+  some_in k e = by (ltb i n) refl e
+    where
+      by : (b : Bool) → ltb i n ≡ b → ◌≡◌ {A = Option ℕ} (Some k) (cond b (Some i) None) → (k ≡ i) × (k < n)
+      by true p q = let s : k ≡ i = cc in (s, rw s (ltb-true i n p))
+      by false p q = let z : ◌≡◌ {A = ℕ} 0 1 = cc in absurd (omega arith)
+
+module _ (c : Columns) where
+  pub meter_of : (x : ℕ) → length c.euis ≡ length c.used → meter_place c x ≡ place_in (length c.used) (meter_at (table_rows c) x)
   unfolding meter_place
-  meter_of x = scan_of (columns c.used c.euis [] [] []) (is_meter x) refl (λ i. refl)
+  meter_of x g =
+      ap₂ (λ (k n : ℕ). place_in n k) (sym places) long
+    where
+      long : length (zip c.used c.euis) ≡ length c.used
+      long = length-zip c.used c.euis ∙ omega (arith, g)
 
-  pub free_of : free_row c.used ≡ free_at (table_rows c)
+      places : meter_at (table_rows c) x ≡ position_or_len (λ p. is_mark p.0 p.1 x) (zip c.used c.euis)
+      places =
+          first_position (is_meter x) (λ (p : ℕ × ℕ). is_mark p.0 p.1 x) (0, 0) (table_rows c) (zip c.used c.euis) (long ∙ sym (length_rows c)) (λ i h.
+          let u : i < length c.used = rw (length_rows c) at h in
+          let e : i < length c.euis = rw g u in
+          ap (is_meter x) (row_at_lem c i u) ∙ sym (ap (λ (p : ℕ × ℕ). is_mark p.0 p.1 x) (get_or-zip c.used c.euis i (0, 0) u e)))
+
+  pub free_of : free_row c ≡ place_in (length c.used) (free_at (table_rows c))
   unfolding free_row
-  free_of = scan_of (columns c.used [] [] [] []) is_free_row refl (λ i. refl)
+  free_of =
+      ap (place_in (length c.used))
+      (sym (first_position is_free_row (λ (u : ℕ). eqb u 0) 0 (table_rows c) c.used (sym (length_rows c)) (λ i h.
+      let u : i < length c.used = rw (length_rows c) at h in
+      ap is_free_row (row_at_lem c i u))))

@@ -5,9 +5,10 @@ use mathlib.Core.Bool.{Bool, true, false, cond}
 use mathlib.Core.List.{List}
 use native.Mathlib.Omega.{arith}
 use lib.{ListN.get_or, ListN.set, Seq.get_or-set_other, Seq.set-get_or}
-use Rattle.meters.specs.declared.{Row.Row, Heard.Heard, Found.Found, Credit.Credit}
-use Rattle.meters.specs.declared.Found.TheVariants as found
-use Rattle.meters.specs.declared.Credit.TheVariants as credit
+use Rattle.refusal.specs.declared.Refusal.TheVariants.{UnequalColumns}
+use Rattle.std.specs.Prelude.{Err}
+use Rattle.meters.specs.Answers.{Found, Uplinked}
+use Rattle.meters.specs.declared.{Row.Row, Heard.Heard}
 use Rattle.meters.specs.{Rows.enrolled, Rows.withdrawn, Rows.hear_of, Answers.table_refusal, Answers.credit_refusal_of, Answers.credit_row_of}
 use Rattle.meters.specs.Table.{Left, no_row, meter_at, free_at, heard_in, find_in, enrol_in, withdraw_in, uplink_in}
 use Rattle.meters.specs.Columns.{Columns, table_rows, columns_of, even, Done, told_place, told_credit, on_rows, find_on, enrol_on, withdraw_on, uplink_on}
@@ -31,7 +32,7 @@ module _ (rows : List Row) (x k : ℕ) where
 
   pub uplink_others : (n s : ℕ) → (k ≡ meter_at rows x → ⊥) → get_or (uplink_in rows x n s).rows k no_row ≡ get_or rows k no_row
   uplink_others n s d =
-      uplink_cases rows x n s (λ (l : Left Credit). get_or l.rows k no_row ≡ get_or rows k no_row)
+      uplink_cases rows x n s (λ (l : Left Uplinked). get_or l.rows k no_row ≡ get_or rows k no_row)
       (λ l. refl)
       (λ l m. refl)
       (λ l m. get_or-set_other rows (meter_at rows x) k (heard_in rows x n s).row no_row d)
@@ -39,9 +40,9 @@ module _ (rows : List Row) (x k : ℕ) where
 -- the row that a credited packet may change is the row in its answer
 module _ (rows : List Row) (x n s : ℕ) where
   pub answered_row : credit_refusal_of (uplink_in rows x n s).answer ≡ 0 → credit_row_of (uplink_in rows x n s).answer ≡ meter_at rows x
-  answered_row = uplink_cases rows x n s (λ (l : Left Credit). Named l.answer) (λ l e. absurd (omega arith)) (λ l m e. absurd (omega arith)) (λ l m. packet)
+  answered_row = uplink_cases rows x n s (λ (l : Left Uplinked). Named l.answer) (λ l e. absurd (omega arith)) (λ l m e. absurd (omega arith)) (λ l m. packet)
     where
-      Named : Credit → Type 0
+      Named : Uplinked → Type 0
       Named a = credit_refusal_of a ≡ 0 → credit_row_of a ≡ meter_at rows x
 
       packet : Named (heard_in rows x n s).answer
@@ -91,16 +92,16 @@ on_columns number told unequal call c nm cs h = by (even c) refl
 module _ (c : Columns) (x : ℕ) where
   pub find_refused : ((find_on c x).refusal ≡ 0 → ⊥) → (find_on c x).columns ≡ c
   unfolding find_on
-  find_refused = on_columns table_refusal told_place (found.Refused 24) (λ (rows : List Row). find_in rows x) c (λ a d. refl) (λ a d. refl) (find_refuses (table_rows c) x)
+  find_refused = on_columns table_refusal told_place (Err UnequalColumns) (λ (rows : List Row). find_in rows x) c (λ a d. refl) (λ a d. refl) (find_refuses (table_rows c) x)
 
   pub withdraw_refused : ((withdraw_on c x).refusal ≡ 0 → ⊥) → (withdraw_on c x).columns ≡ c
   unfolding withdraw_on
-  withdraw_refused = on_columns table_refusal told_place (found.Refused 24) (λ (rows : List Row). withdraw_in rows x) c (λ a d. refl) (λ a d. refl) (withdraw_refuses (table_rows c) x)
+  withdraw_refused = on_columns table_refusal told_place (Err UnequalColumns) (λ (rows : List Row). withdraw_in rows x) c (λ a d. refl) (λ a d. refl) (withdraw_refuses (table_rows c) x)
 
   pub enrol_refused : (a n : ℕ) → ((enrol_on c x a n).refusal ≡ 0 → ⊥) → (enrol_on c x a n).columns ≡ c
   unfolding enrol_on
-  enrol_refused a n = on_columns table_refusal told_place (found.Refused 24) (λ (rows : List Row). enrol_in rows x a n) c (λ a d. refl) (λ a d. refl) (enrol_refuses (table_rows c) x a n)
+  enrol_refused a n = on_columns table_refusal told_place (Err UnequalColumns) (λ (rows : List Row). enrol_in rows x a n) c (λ a d. refl) (λ a d. refl) (enrol_refuses (table_rows c) x a n)
 
   pub uplink_refused : (n s : ℕ) → ((uplink_on c x n s).refusal ≡ 0 → ⊥) → (uplink_on c x n s).columns ≡ c
   unfolding uplink_on
-  uplink_refused n s = on_columns credit_refusal_of told_credit (credit.Refused 24) (λ (rows : List Row). uplink_in rows x n s) c (λ a d. refl) (λ a d. refl) (uplink_refuses (table_rows c) x n s)
+  uplink_refused n s = on_columns credit_refusal_of told_credit (Err UnequalColumns) (λ (rows : List Row). uplink_in rows x n s) c (λ a d. refl) (λ a d. refl) (uplink_refuses (table_rows c) x n s)

@@ -2,7 +2,7 @@
 -- Assumes nothing.
 use Prim.Native.Nat.{ℕ}
 use mathlib.Core.Path.{◌≡◌, sym, ap, ◌∙◌}
-use Rattle.meters.specs.declared.{Found.Found, Credit.Credit}
+use Rattle.meters.specs.Answers.{Found, Uplinked}
 use Rattle.meters.specs.Columns.{Columns, Done, told_place, told_credit, find_on, enrol_on, withdraw_on, uplink_on}
 
 module _ (c : Columns) (x : ℕ) where
@@ -19,6 +19,6 @@ module _ (c : Columns) (x : ℕ) where
     pub one_withdraw : told_place r d ≡ withdraw_on c x → told_place r' d' ≡ withdraw_on c x → (r ≡ r') × (d ≡ d')
     one_withdraw p q = same_place (p ∙ sym q)
 
-  module _ (r r' : Credit) (d d' : Columns) where
+  module _ (r r' : Uplinked) (d d' : Columns) where
     pub one_uplink : (n s : ℕ) → told_credit r d ≡ uplink_on c x n s → told_credit r' d' ≡ uplink_on c x n s → (r ≡ r') × (d ≡ d')
-    one_uplink n s p q = (ap (λ (t : Done Credit). t.answer) (p ∙ sym q), ap (λ (t : Done Credit). t.columns) (p ∙ sym q))
+    one_uplink n s p q = (ap (λ (t : Done Uplinked). t.answer) (p ∙ sym q), ap (λ (t : Done Uplinked). t.columns) (p ∙ sym q))

@@ -4,49 +4,51 @@ use mathlib.Core.{Path.◌≡◌, Path.refl, List.List}
 use mathlib.Core.Bool.{Bool, true, false, not, ◌&&◌, cond}
 use lib.{Dec.eqb, Dec.ltb, ListN.length, ListN.get_or, ListN.set}
 use borrow.Author.Tests.{lt-ltb, le-ltb, ltb-true, ltb-false}
-use Rattle.meters.specs.declared.{Row.Row, Heard.Heard, Found.Found, Credit.Credit}
-use Rattle.meters.specs.declared.Found.TheVariants as found
-use Rattle.meters.specs.declared.Credit.TheVariants as credit
+use Rattle.refusal.specs.declared.Refusal.TheVariants.{NoRow, AlreadyEnrolled, NoFreeRow, StationNumber, Stale}
+use Rattle.meters.specs.declared.Kind.TheVariants.{New, Copy}
+use Rattle.std.specs.Prelude.{Ok, Err}
+use Rattle.meters.specs.Answers.{Found, Uplinked}
+use Rattle.meters.specs.declared.{Row.Row, Heard.Heard}
 use Rattle.meters.specs.Stations.{nobody, alone, with_hearer}
 use Rattle.meters.specs.Rows.{enrolled, withdrawn, heard_as, credited, hear_of}
 use Rattle.meters.specs.Table.{Left, no_row, left, meter_at, free_at, heard_in, find_in, enrol_in, withdraw_in, uplink_in}
 
 module _ (rows : List Row) (x : ℕ) where
-  pub find_none : length rows ≤ meter_at rows x → find_in rows x ≡ left (found.Refused 21) rows
+  pub find_none : length rows ≤ meter_at rows x → find_in rows x ≡ left (Err NoRow) rows
   unfolding find_in
   find_none h = simp (le-ltb (meter_at rows x) (length rows) h)
 
-  pub find_at : meter_at rows x < length rows → find_in rows x ≡ left (found.At (meter_at rows x)) rows
+  pub find_at : meter_at rows x < length rows → find_in rows x ≡ left (Ok (meter_at rows x)) rows
   unfolding find_in
   find_at h = simp (lt-ltb (meter_at rows x) (length rows) h)
 
-  pub withdraw_none : length rows ≤ meter_at rows x → withdraw_in rows x ≡ left (found.Refused 21) rows
+  pub withdraw_none : length rows ≤ meter_at rows x → withdraw_in rows x ≡ left (Err NoRow) rows
   unfolding withdraw_in
   withdraw_none h = simp (le-ltb (meter_at rows x) (length rows) h)
 
-  pub withdraw_at : meter_at rows x < length rows → withdraw_in rows x ≡ left (found.At (meter_at rows x)) (set rows (meter_at rows x) (withdrawn (get_or rows (meter_at rows x) no_row)))
+  pub withdraw_at : meter_at rows x < length rows → withdraw_in rows x ≡ left (Ok (meter_at rows x)) (set rows (meter_at rows x) (withdrawn (get_or rows (meter_at rows x) no_row)))
   unfolding withdraw_in
   withdraw_at h = simp (lt-ltb (meter_at rows x) (length rows) h)
 
   module _ (a n : ℕ) where
-    pub enrol_there : meter_at rows x < length rows → enrol_in rows x a n ≡ left (found.Refused 22) rows
+    pub enrol_there : meter_at rows x < length rows → enrol_in rows x a n ≡ left (Err AlreadyEnrolled) rows
     unfolding enrol_in
     enrol_there h = simp (lt-ltb (meter_at rows x) (length rows) h)
 
-    pub enrol_full : length rows ≤ meter_at rows x → length rows ≤ free_at rows → enrol_in rows x a n ≡ left (found.Refused 23) rows
+    pub enrol_full : length rows ≤ meter_at rows x → length rows ≤ free_at rows → enrol_in rows x a n ≡ left (Err NoFreeRow) rows
     unfolding enrol_in
     enrol_full h g = simp (le-ltb (meter_at rows x) (length rows) h, le-ltb (free_at rows) (length rows) g)
 
-    pub enrol_at : length rows ≤ meter_at rows x → free_at rows < length rows → enrol_in rows x a n ≡ left (found.At (free_at rows)) (set rows (free_at rows) (enrolled x a n))
+    pub enrol_at : length rows ≤ meter_at rows x → free_at rows < length rows → enrol_in rows x a n ≡ left (Ok (free_at rows)) (set rows (free_at rows) (enrolled x a n))
     unfolding enrol_in
     enrol_at h g = simp (le-ltb (meter_at rows x) (length rows) h, lt-ltb (free_at rows) (length rows) g)
 
   module _ (n s : ℕ) where
-    pub uplink_over : 63 < s → uplink_in rows x n s ≡ left (credit.Refused 25) rows
+    pub uplink_over : 63 < s → uplink_in rows x n s ≡ left (Err StationNumber) rows
     unfolding uplink_in
     uplink_over h = simp (lt-ltb 63 s h)
 
-    pub uplink_none : s ≤ 63 → length rows ≤ meter_at rows x → uplink_in rows x n s ≡ left (credit.Refused 21) rows
+    pub uplink_none : s ≤ 63 → length rows ≤ meter_at rows x → uplink_in rows x n s ≡ left (Err NoRow) rows
     unfolding uplink_in
     uplink_none h g = simp (le-ltb 63 s h, le-ltb (meter_at rows x) (length rows) g)
 
@@ -56,17 +58,17 @@ module _ (rows : List Row) (x : ℕ) where
 
 -- ---- what holds in each case holds of the call
 module _ (rows : List Row) (x : ℕ) where
-  pub withdraw_cases : (P : Left Found → Type 0) → (length rows ≤ meter_at rows x → P (left (found.Refused 21) rows))
-      → (meter_at rows x < length rows → P (left (found.At (meter_at rows x)) (set rows (meter_at rows x) (withdrawn (get_or rows (meter_at rows x) no_row))))) → P (withdraw_in rows x)
+  pub withdraw_cases : (P : Left Found → Type 0) → (length rows ≤ meter_at rows x → P (left (Err NoRow) rows))
+      → (meter_at rows x < length rows → P (left (Ok (meter_at rows x)) (set rows (meter_at rows x) (withdrawn (get_or rows (meter_at rows x) no_row))))) → P (withdraw_in rows x)
   withdraw_cases P absent there = by (ltb (meter_at rows x) (length rows)) refl
     where
       by : (b : Bool) → ltb (meter_at rows x) (length rows) ≡ b → P (withdraw_in rows x)
       by true e = let l = ltb-true (meter_at rows x) (length rows) e in rw (withdraw_at rows x l) (there l)
       by false e = let l = ltb-false (meter_at rows x) (length rows) e in rw (withdraw_none rows x l) (absent l)
 
-  pub enrol_cases : (a n : ℕ) (P : Left Found → Type 0) → (meter_at rows x < length rows → P (left (found.Refused 22) rows))
-      → (length rows ≤ meter_at rows x → length rows ≤ free_at rows → P (left (found.Refused 23) rows))
-      → (length rows ≤ meter_at rows x → free_at rows < length rows → P (left (found.At (free_at rows)) (set rows (free_at rows) (enrolled x a n)))) → P (enrol_in rows x a n)
+  pub enrol_cases : (a n : ℕ) (P : Left Found → Type 0) → (meter_at rows x < length rows → P (left (Err AlreadyEnrolled) rows))
+      → (length rows ≤ meter_at rows x → length rows ≤ free_at rows → P (left (Err NoFreeRow) rows))
+      → (length rows ≤ meter_at rows x → free_at rows < length rows → P (left (Ok (free_at rows)) (set rows (free_at rows) (enrolled x a n)))) → P (enrol_in rows x a n)
   enrol_cases a n P there full free = by (ltb (meter_at rows x) (length rows)) (ltb (free_at rows) (length rows)) refl refl
     where
       by : (b d : Bool) → ltb (meter_at rows x) (length rows) ≡ b → ltb (free_at rows) (length rows) ≡ d → P (enrol_in rows x a n)
@@ -80,8 +82,8 @@ module _ (rows : List Row) (x : ℕ) where
           let m = ltb-true (free_at rows) (length rows) f in
           rw (enrol_at rows x a n l m) (free l m)
 
-  pub uplink_cases : (n s : ℕ) (P : Left Credit → Type 0) → (63 < s → P (left (credit.Refused 25) rows))
-      → (s ≤ 63 → length rows ≤ meter_at rows x → P (left (credit.Refused 21) rows))
+  pub uplink_cases : (n s : ℕ) (P : Left Uplinked → Type 0) → (63 < s → P (left (Err StationNumber) rows))
+      → (s ≤ 63 → length rows ≤ meter_at rows x → P (left (Err NoRow) rows))
       → (s ≤ 63 → meter_at rows x < length rows → P (left (heard_in rows x n s).answer (set rows (meter_at rows x) (heard_in rows x n s).row))) → P (uplink_in rows x n s)
   uplink_cases n s P over absent there = by (ltb 63 s) (ltb (meter_at rows x) (length rows)) refl refl
     where
@@ -97,12 +99,12 @@ module _ (rows : List Row) (x : ℕ) where
           rw (uplink_at rows x n s l m) (there l m)
 
 -- a packet is new, a copy or stale
-pub hear_cases : (i : ℕ) (r : Row) (n s : ℕ) (P : Heard → Type 0) → P (credited credit.New i (heard_as r n (alone s))) → P (credited credit.Copy i (heard_as r r.last (with_hearer r.heard s)))
-    → P (record { row = r; answer = credit.Refused 26 }) → P (hear_of i r n s)
+pub hear_cases : (i : ℕ) (r : Row) (n s : ℕ) (P : Heard → Type 0) → P (credited New i (heard_as r n (alone s))) → P (credited Copy i (heard_as r r.last (with_hearer r.heard s)))
+    → P (record { row = r; answer = Err Stale }) → P (hear_of i r n s)
 unfolding hear_of
 hear_cases i r n s P new copy stale = by (ltb r.last n) (eqb n r.last && not (eqb r.heard nobody))
   where
-    by : (a b : Bool) → P (cond a (credited credit.New i (heard_as r n (alone s))) (cond b (credited credit.Copy i (heard_as r r.last (with_hearer r.heard s))) (record { row = r; answer = credit.Refused 26 })))
+    by : (a b : Bool) → P (cond a (credited New i (heard_as r n (alone s))) (cond b (credited Copy i (heard_as r r.last (with_hearer r.heard s))) (record { row = r; answer = Err Stale })))
     by true b = new
     by false true = copy
     by false false = stale
@@ -113,16 +115,16 @@ hear_keeps i r n s g kept = hear_cases i r n s (λ (h : Heard). g h.row ≡ g r)
 
 -- ---- a call's answer
 module _ (rows : List Row) (x : ℕ) where
-  pub find_answer : (find_in rows x).answer ≡ cond (ltb (meter_at rows x) (length rows)) (found.At (meter_at rows x)) (found.Refused 21)
+  pub find_answer : (find_in rows x).answer ≡ cond (ltb (meter_at rows x) (length rows)) (Ok (meter_at rows x)) (Err NoRow)
   unfolding find_in
   find_answer = refl
 
-  pub withdraw_answer : (withdraw_in rows x).answer ≡ cond (ltb (meter_at rows x) (length rows)) (found.At (meter_at rows x)) (found.Refused 21)
+  pub withdraw_answer : (withdraw_in rows x).answer ≡ cond (ltb (meter_at rows x) (length rows)) (Ok (meter_at rows x)) (Err NoRow)
   withdraw_answer =
-      withdraw_cases rows x (λ (l : Left Found). l.answer ≡ cond (ltb (meter_at rows x) (length rows)) (found.At (meter_at rows x)) (found.Refused 21))
+      withdraw_cases rows x (λ (l : Left Found). l.answer ≡ cond (ltb (meter_at rows x) (length rows)) (Ok (meter_at rows x)) (Err NoRow))
       (λ l. simp (le-ltb (meter_at rows x) (length rows) l)) (λ l. simp (lt-ltb (meter_at rows x) (length rows) l))
 
-  pub uplink_answer : (n s : ℕ) → (uplink_in rows x n s).answer ≡ cond (ltb 63 s) (credit.Refused 25) (cond (ltb (meter_at rows x) (length rows)) (heard_in rows x n s).answer (credit.Refused 21))
+  pub uplink_answer : (n s : ℕ) → (uplink_in rows x n s).answer ≡ cond (ltb 63 s) (Err StationNumber) (cond (ltb (meter_at rows x) (length rows)) (heard_in rows x n s).answer (Err NoRow))
   uplink_answer n s =
-      uplink_cases rows x n s (λ (l : Left Credit). l.answer ≡ cond (ltb 63 s) (credit.Refused 25) (cond (ltb (meter_at rows x) (length rows)) (heard_in rows x n s).answer (credit.Refused 21)))
+      uplink_cases rows x n s (λ (l : Left Uplinked). l.answer ≡ cond (ltb 63 s) (Err StationNumber) (cond (ltb (meter_at rows x) (length rows)) (heard_in rows x n s).answer (Err NoRow)))
       (λ l. simp (lt-ltb 63 s l)) (λ l m. simp (le-ltb 63 s l, le-ltb (meter_at rows x) (length rows) m)) (λ l m. simp (le-ltb 63 s l, lt-ltb (meter_at rows x) (length rows) m))

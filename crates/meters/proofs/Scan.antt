@@ -1,4 +1,4 @@
--- The first row that passes a test: where it is, and what a scan from the front has shown when it stops. By induction on the rows. Assumes nothing.
+-- The first row that passes a test: where it is, and what stands before it. By induction on the rows. Assumes nothing.
 use Prim.Native.Nat.{ℕ, zero, suc, ◌≤◌, ◌<◌}
 use mathlib.Core.Path.{◌≡◌, refl, sym, ap, ◌∙◌}
 use mathlib.Core.Bool.{Bool, true, false, cond}
@@ -12,18 +12,12 @@ use Rattle.meters.specs.Table.{no_row, first}
 use Rattle.meters.proofs.Truth.{never}
 
 module _ (t : Row → Bool) where
-  -- the scan stopped at i
-  pub first_is : (rows : List Row) (i : ℕ) → ((k : ℕ) → k < i → t (get_or rows k no_row) ≡ false) → i < length rows → t (get_or rows i no_row) ≡ true → i ≡ first t rows
+  -- no row before i passes, and row i does
+  first_is : (rows : List Row) (i : ℕ) → ((k : ℕ) → k < i → t (get_or rows k no_row) ≡ false) → i < length rows → t (get_or rows i no_row) ≡ true → i ≡ first t rows
   unfolding first
   first_is [] i b l e = absurd (omega arith)
   first_is (r ∷ rows) zero b l e = simp e
   first_is (r ∷ rows) (suc i) b l e = simp (b 0 (zero-lt-suc i)) (ap suc (first_is rows i (λ k h. b (suc k) (omega arith)) (le_of_suc-le-suc l) e))
-
-  -- the scan came to the end
-  pub first_none : (rows : List Row) → ((k : ℕ) → k < length rows → t (get_or rows k no_row) ≡ false) → length rows ≡ first t rows
-  unfolding first
-  first_none [] b = refl
-  first_none (r ∷ rows) b = simp (b 0 (zero-lt-suc (length rows))) (ap suc (first_none rows (λ k h. b (suc k) (omega arith))))
 
   pub first_passes : (rows : List Row) → first t rows < length rows → t (get_or rows (first t rows) no_row) ≡ true
   unfolding first

@@ -7,11 +7,13 @@ use mathlib.Core.Bool.{Bool, true, false, not, ◌&&◌, cond}
 use mathlib.Core.List.{List, [], ◌∷◌, map, map-id}
 use lib.Dec.{eqb, ltb}
 use lib.ListN.{length, get_or, set, length-map, get_or-map}
-use Rattle.meters.specs.declared.{Row.Row, Heard.Heard, Found.Found, Credit.Credit}
-use Rattle.meters.specs.declared.Found.TheVariants as found
-use Rattle.meters.specs.declared.Credit.TheVariants as credit
+use Rattle.refusal.specs.declared.Refusal.TheVariants.{NoRow, AlreadyEnrolled, NoFreeRow, UnequalColumns, StationNumber, Stale}
+use Rattle.meters.specs.declared.Kind.TheVariants.{New, Copy}
+use Rattle.std.specs.Prelude.{Ok, Err}
+use Rattle.meters.specs.Answers.{Found, Uplinked}
+use Rattle.meters.specs.declared.{Row.Row, Heard.Heard}
 use Rattle.meters.specs.Stations.{numbers_to, hearers, alone, with_hearer}
-use Rattle.meters.specs.Rows.{is_free_row, is_meter, enrolled, withdrawn, heard_as, hear_of}
+use Rattle.meters.specs.Rows.{is_free_row, is_meter, enrolled, withdrawn, heard_as, credit_of, hear_of}
 use Rattle.meters.specs.Table.{Left, no_row, left, first, changed, meter_at, free_at, find_in, enrol_in, withdraw_in, uplink_in}
 use Rattle.meters.specs.Columns.{Columns, columns, row_at, table_rows, columns_of, same_lengths, even, Done, told_place, told_credit, on_rows, find_on, enrol_on, withdraw_on, uplink_on}
 use Rattle.meters.proofs.{Scan.first_same, Held.map_set, Held.columns_are}
@@ -39,8 +41,8 @@ bare_hear i r n s = by (ltb r.last n) (eqb n r.last && not (eqb r.heard 0))
   where
     packet : Bool → Bool → Row → Heard
     packet p q y =
-        cond p (record { row = heard_as y n (alone s); answer = credit.New (hearers (alone s)) i })
-        (cond q (record { row = heard_as y r.last (with_hearer r.heard s); answer = credit.Copy (hearers (with_hearer r.heard s)) i }) (record { row = y; answer = credit.Refused 26 }))
+        cond p (record { row = heard_as y n (alone s); answer = Ok (credit_of New (hearers (alone s)) i) })
+        (cond q (record { row = heard_as y r.last (with_hearer r.heard s); answer = Ok (credit_of Copy (hearers (with_hearer r.heard s)) i) }) (record { row = y; answer = Err Stale }))
 
     by : (p q : Bool) → packet p q (bare_row r) ≡ record { row = bare_row (packet p q r).row; answer = (packet p q r).answer }
     by true q = refl
@@ -69,9 +71,9 @@ module _ (rows : List Row) (x : ℕ) where
   bare_withdraw : withdraw_in (map bare_row rows) x ≡ bare_left (withdraw_in rows x)
   unfolding withdraw_in
   bare_withdraw =
-      ap (λ (i : ℕ). changed (map bare_row rows) i (withdrawn (get_or (map bare_row rows) i no_row)) (found.At i) (found.Refused 21)) meter_bare
-      ∙ ap (λ (r : Row). changed (map bare_row rows) (meter_at rows x) (withdrawn r) (found.At (meter_at rows x)) (found.Refused 21)) row_bare
-      ∙ bare_changed rows (meter_at rows x) (withdrawn (get_or rows (meter_at rows x) no_row)) (found.At (meter_at rows x)) (found.Refused 21)
+      ap (λ (i : ℕ). changed (map bare_row rows) i (withdrawn (get_or (map bare_row rows) i no_row)) (Ok i) (Err NoRow)) meter_bare
+      ∙ ap (λ (r : Row). changed (map bare_row rows) (meter_at rows x) (withdrawn r) (Ok (meter_at rows x)) (Err NoRow)) row_bare
+      ∙ bare_changed rows (meter_at rows x) (withdrawn (get_or rows (meter_at rows x) no_row)) (Ok (meter_at rows x)) (Err NoRow)
 
   bare_enrol : (a n : ℕ) → enrol_in (map bare_row rows) x 0 n ≡ bare_left (enrol_in rows x a n)
   unfolding enrol_in
@@ -81,12 +83,12 @@ module _ (rows : List Row) (x : ℕ) where
       ∙ by (ltb (meter_at rows x) (length rows))
     where
       call : List Row → ℕ → ℕ → ℕ → ℕ → Left Found
-      call l short k m free = cond (ltb m k) (left (found.Refused 22) l) (changed l free (enrolled x short n) (found.At free) (found.Refused 23))
+      call l short k m free = cond (ltb m k) (left (Err AlreadyEnrolled) l) (changed l free (enrolled x short n) (Ok free) (Err NoFreeRow))
 
-      by : (b : Bool) → cond b (left (found.Refused 22) (map bare_row rows)) (changed (map bare_row rows) (free_at rows) (enrolled x 0 n) (found.At (free_at rows)) (found.Refused 23))
-          ≡ bare_left (cond b (left (found.Refused 22) rows) (changed rows (free_at rows) (enrolled x a n) (found.At (free_at rows)) (found.Refused 23)))
+      by : (b : Bool) → cond b (left (Err AlreadyEnrolled) (map bare_row rows)) (changed (map bare_row rows) (free_at rows) (enrolled x 0 n) (Ok (free_at rows)) (Err NoFreeRow))
+          ≡ bare_left (cond b (left (Err AlreadyEnrolled) rows) (changed rows (free_at rows) (enrolled x a n) (Ok (free_at rows)) (Err NoFreeRow)))
       by true = refl
-      by false = bare_changed rows (free_at rows) (enrolled x a n) (found.At (free_at rows)) (found.Refused 23)
+      by false = bare_changed rows (free_at rows) (enrolled x a n) (Ok (free_at rows)) (Err NoFreeRow)
 
   bare_uplink : (n s : ℕ) → uplink_in (map bare_row rows) x n s ≡ bare_left (uplink_in rows x n s)
   unfolding uplink_in
@@ -95,8 +97,8 @@ module _ (rows : List Row) (x : ℕ) where
       ∙ ap (call (map bare_row rows) (meter_at rows x)) row_bare
       ∙ by (ltb 63 s)
     where
-      call : List Row → ℕ → Row → Left Credit
-      call l i r = cond (ltb 63 s) (left (credit.Refused 25) l) (changed l i (hear_of i r n s).row (hear_of i r n s).answer (credit.Refused 21))
+      call : List Row → ℕ → Row → Left Uplinked
+      call l i r = cond (ltb 63 s) (left (Err StationNumber) l) (changed l i (hear_of i r n s).row (hear_of i r n s).answer (Err NoRow))
 
       i : ℕ
       i = meter_at rows x
@@ -104,10 +106,10 @@ module _ (rows : List Row) (x : ℕ) where
       r : Row
       r = get_or rows i no_row
 
-      by : (b : Bool) → cond b (left (credit.Refused 25) (map bare_row rows)) (changed (map bare_row rows) i (hear_of i (bare_row r) n s).row (hear_of i (bare_row r) n s).answer (credit.Refused 21))
-          ≡ bare_left (cond b (left (credit.Refused 25) rows) (changed rows i (hear_of i r n s).row (hear_of i r n s).answer (credit.Refused 21)))
+      by : (b : Bool) → cond b (left (Err StationNumber) (map bare_row rows)) (changed (map bare_row rows) i (hear_of i (bare_row r) n s).row (hear_of i (bare_row r) n s).answer (Err NoRow))
+          ≡ bare_left (cond b (left (Err StationNumber) rows) (changed rows i (hear_of i r n s).row (hear_of i r n s).answer (Err NoRow)))
       by true = refl
-      by false = ap (λ (h : Heard). changed (map bare_row rows) i h.row h.answer (credit.Refused 21)) (bare_hear i r n s) ∙ bare_changed rows i (hear_of i r n s).row (hear_of i r n s).answer (credit.Refused 21)
+      by false = ap (λ (h : Heard). changed (map bare_row rows) i h.row h.answer (Err NoRow)) (bare_hear i r n s) ∙ bare_changed rows i (hear_of i r n s).row (hear_of i r n s).answer (Err NoRow)
 
 -- ---- on columns
 zeros : (l : List ℕ) (i : ℕ) → ◌≡◌ {A = ℕ} (get_or (map (λ (s : ℕ). 0) l) i 0) 0
@@ -160,19 +162,19 @@ module _ {A : Type 0} (told : A → Columns → Done A) (unequal : A) (c : Colum
 module _ (c : Columns) (x : ℕ) where
   find_bare : find_on (bare c) x ≡ bare_done (find_on c x)
   unfolding find_on
-  find_bare = bare_call told_place (found.Refused 24) c (λ a d. refl) (λ (rows : List Row). find_in rows x) (λ (rows : List Row). find_in rows x) (λ rows. bare_find rows x)
+  find_bare = bare_call told_place (Err UnequalColumns) c (λ a d. refl) (λ (rows : List Row). find_in rows x) (λ (rows : List Row). find_in rows x) (λ rows. bare_find rows x)
 
   withdraw_bare : withdraw_on (bare c) x ≡ bare_done (withdraw_on c x)
   unfolding withdraw_on
-  withdraw_bare = bare_call told_place (found.Refused 24) c (λ a d. refl) (λ (rows : List Row). withdraw_in rows x) (λ (rows : List Row). withdraw_in rows x) (λ rows. bare_withdraw rows x)
+  withdraw_bare = bare_call told_place (Err UnequalColumns) c (λ a d. refl) (λ (rows : List Row). withdraw_in rows x) (λ (rows : List Row). withdraw_in rows x) (λ rows. bare_withdraw rows x)
 
   enrol_bare : (a n : ℕ) → enrol_on (bare c) x 0 n ≡ bare_done (enrol_on c x a n)
   unfolding enrol_on
-  enrol_bare a n = bare_call told_place (found.Refused 24) c (λ a d. refl) (λ (rows : List Row). enrol_in rows x a n) (λ (rows : List Row). enrol_in rows x 0 n) (λ rows. bare_enrol rows x a n)
+  enrol_bare a n = bare_call told_place (Err UnequalColumns) c (λ a d. refl) (λ (rows : List Row). enrol_in rows x a n) (λ (rows : List Row). enrol_in rows x 0 n) (λ rows. bare_enrol rows x a n)
 
   uplink_bare : (n s : ℕ) → uplink_on (bare c) x n s ≡ bare_done (uplink_on c x n s)
   unfolding uplink_on
-  uplink_bare n s = bare_call told_credit (credit.Refused 24) c (λ a d. refl) (λ (rows : List Row). uplink_in rows x n s) (λ (rows : List Row). uplink_in rows x n s) (λ rows. bare_uplink rows x n s)
+  uplink_bare n s = bare_call told_credit (Err UnequalColumns) c (λ a d. refl) (λ (rows : List Row). uplink_in rows x n s) (λ (rows : List Row). uplink_in rows x n s) (λ rows. bare_uplink rows x n s)
 
 -- ---- the theorems: c and d differ in short addresses alone
 module _ (c d : Columns) (alike : bare c ≡ bare d) (x : ℕ) where

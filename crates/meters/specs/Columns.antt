@@ -1,12 +1,11 @@
 -- The table as five columns lent by the caller: the calls on columns are the calls on the rows they hold (document 01, "Meter table").
-use Rattle.std.specs.Prelude.{ℕ}
+use Rattle.std.specs.Prelude.{ℕ, Err}
 use mathlib.Core.{Bool.Bool, Bool.◌&&◌, Bool.cond, List.List, List.map}
 use lib.{Dec.eqb, ListN.length, ListN.get_or}
-use Rattle.meters.specs.declared.{Row.Row, Found.Found, Credit.Credit}
-use Rattle.meters.specs.declared.Found.TheVariants as found
-use Rattle.meters.specs.declared.Credit.TheVariants as credit
+use Rattle.refusal.specs.declared.Refusal.TheVariants.{UnequalColumns}
+use Rattle.meters.specs.declared.Row.{Row}
 use Rattle.meters.specs.Stations.{numbers_to}
-use Rattle.meters.specs.Answers.{table_refusal, row_of, credit_refusal_of, credit_row_of, hearers_of}
+use Rattle.meters.specs.Answers.{Found, Uplinked, table_refusal, row_of, credit_refusal_of, credit_row_of, hearers_of}
 use Rattle.meters.specs.Table.{Left, find_in, enrol_in, withdraw_in, uplink_in}
 
 -- "used, EUI, short address, last counter, heard"
@@ -49,7 +48,7 @@ pub record Done (A : Type 0) : Type 0 where
 abbrev pub told_place : Found → Columns → Done Found
 told_place r c = record { answer = r; refusal = table_refusal r; row = row_of r; hearers = 0; columns = c }
 
-abbrev pub told_credit : Credit → Columns → Done Credit
+abbrev pub told_credit : Uplinked → Columns → Done Uplinked
 told_credit r c = record { answer = r; refusal = credit_refusal_of r; row = credit_row_of r; hearers = hearers_of r; columns = c }
 
 -- "Test 24 first": a call on columns is the call on their rows
@@ -57,13 +56,13 @@ abbrev pub on_rows : {A : Type 0} → (A → Columns → Done A) → A → (List
 on_rows told unequal call c = cond (even c) (told (call (table_rows c)).answer (columns_of (call (table_rows c)).rows)) (told unequal c)
 
 unfoldable pub find_on : Columns → ℕ → Done Found
-find_on c eui = on_rows told_place (found.Refused 24) (λ (rows : List Row). find_in rows eui) c
+find_on c eui = on_rows told_place (Err UnequalColumns) (λ (rows : List Row). find_in rows eui) c
 
 unfoldable pub enrol_on : Columns → ℕ → ℕ → ℕ → Done Found
-enrol_on c eui short counter = on_rows told_place (found.Refused 24) (λ (rows : List Row). enrol_in rows eui short counter) c
+enrol_on c eui short counter = on_rows told_place (Err UnequalColumns) (λ (rows : List Row). enrol_in rows eui short counter) c
 
 unfoldable pub withdraw_on : Columns → ℕ → Done Found
-withdraw_on c eui = on_rows told_place (found.Refused 24) (λ (rows : List Row). withdraw_in rows eui) c
+withdraw_on c eui = on_rows told_place (Err UnequalColumns) (λ (rows : List Row). withdraw_in rows eui) c
 
-unfoldable pub uplink_on : Columns → ℕ → ℕ → ℕ → Done Credit
-uplink_on c eui counter station = on_rows told_credit (credit.Refused 24) (λ (rows : List Row). uplink_in rows eui counter station) c
+unfoldable pub uplink_on : Columns → ℕ → ℕ → ℕ → Done Uplinked
+uplink_on c eui counter station = on_rows told_credit (Err UnequalColumns) (λ (rows : List Row). uplink_in rows eui counter station) c

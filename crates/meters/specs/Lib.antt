@@ -1,6 +1,7 @@
 pub mod Stations
 pub mod Rows
-pub mod Table
 pub mod Answers
+pub mod Table
 pub mod Columns
+pub mod Lent
 pub mod Code

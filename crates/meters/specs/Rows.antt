@@ -1,7 +1,8 @@
 -- One row of the meter table: whose it is, and what enrolment, withdrawal and an uplink make of it (document 01, "Meter table").
-use Rattle.std.specs.Prelude.{ℕ, Bool, not, ◌&&◌, cond, eqb, ltb}
-use Rattle.meters.specs.declared.{Row.Row, Heard.Heard}
-use Rattle.meters.specs.declared.Credit.{Credit, TheVariants.New, TheVariants.Copy, TheVariants.Refused}
+use Rattle.std.specs.Prelude.{ℕ, Bool, not, ◌&&◌, cond, eqb, ltb, Ok, Err}
+use Rattle.refusal.specs.declared.Refusal.TheVariants.{Stale}
+use Rattle.meters.specs.declared.{Row.Row, Credit.Credit, Heard.Heard}
+use Rattle.meters.specs.declared.Kind.{Kind, TheVariants.New, TheVariants.Copy}
 use Rattle.meters.specs.Stations.{hearers, nobody, alone, with_hearer}
 
 -- "used (a byte: 0 free, else used)"
@@ -28,8 +29,11 @@ abbrev pub heard_as : Row → ℕ → ℕ → Row
 heard_as r counter heard = record { used = r.used; eui = r.eui; short = r.short; last = counter; heard = heard }
 
 -- new or a copy, with the count of the row's heard set and the row's number i
-abbrev pub credited : (ℕ → ℕ → Credit) → ℕ → Row → Heard
-credited kind i r = record { row = r; answer = kind (hearers r.heard) i }
+abbrev pub credit_of : Kind → ℕ → ℕ → Credit
+credit_of kind hearers row = record { kind = kind; hearers = hearers; row = row }
+
+abbrev pub credited : Kind → ℕ → Row → Heard
+credited kind i r = record { row = r; answer = Ok (credit_of kind (hearers r.heard) i) }
 
 -- "counter above last: new, last set, heard is this station only; equal with heard not empty: copy, station added; else 26"
 unfoldable pub hear_of : ℕ → Row → ℕ → ℕ → Heard
@@ -38,4 +42,4 @@ hear_of i r counter station =
     (credited New i (heard_as r counter (alone station)))
     (cond (eqb counter r.last && not (eqb r.heard nobody))
     (credited Copy i (heard_as r r.last (with_hearer r.heard station)))
-    (record { row = r; answer = Refused 26 }))
+    (record { row = r; answer = Err Stale }))

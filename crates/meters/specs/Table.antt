@@ -1,10 +1,10 @@
 -- The table's calls on a list of rows: each gives its answer and the rows afterwards (document 01, "Meter table").
-use Rattle.std.specs.Prelude.{ℕ, suc}
+use Rattle.std.specs.Prelude.{ℕ, suc, Ok, Err}
 use mathlib.Core.{Bool.Bool, Bool.cond, List.List, List.[], List.◌∷◌}
 use lib.{Dec.ltb, ListN.length, ListN.get_or, ListN.set}
-use Rattle.meters.specs.declared.{Row.Row, Heard.Heard, Found.Found, Credit.Credit}
-use Rattle.meters.specs.declared.Found.TheVariants as found
-use Rattle.meters.specs.declared.Credit.TheVariants as credit
+use Rattle.refusal.specs.declared.Refusal.TheVariants.{NoRow, AlreadyEnrolled, NoFreeRow, StationNumber}
+use Rattle.meters.specs.declared.{Row.Row, Heard.Heard}
+use Rattle.meters.specs.Answers.{Found, Uplinked}
 use Rattle.meters.specs.Rows.{is_free_row, is_meter, enrolled, withdrawn, hear_of}
 
 -- what stands past the table's end
@@ -38,26 +38,26 @@ changed rows i row answer refusal = cond (ltb i (length rows)) (left answer (set
 
 -- the meter's row, or 21
 unfoldable pub find_in : List Row → ℕ → Left Found
-find_in rows eui = left (cond (ltb (meter_at rows eui) (length rows)) (found.At (meter_at rows eui)) (found.Refused 21)) rows
+find_in rows eui = left (cond (ltb (meter_at rows eui) (length rows)) (Ok (meter_at rows eui)) (Err NoRow)) rows
 
 -- "Enrol takes the lowest free row (22, then 23)"
 unfoldable pub enrol_in : List Row → ℕ → ℕ → ℕ → Left Found
 enrol_in rows eui short counter =
     cond (ltb (meter_at rows eui) (length rows))
-    (left (found.Refused 22) rows)
-    (changed rows (free_at rows) (enrolled eui short counter) (found.At (free_at rows)) (found.Refused 23))
+    (left (Err AlreadyEnrolled) rows)
+    (changed rows (free_at rows) (enrolled eui short counter) (Ok (free_at rows)) (Err NoFreeRow))
 
 -- "Withdraw clears the used mark and nothing else (21)"
 unfoldable pub withdraw_in : List Row → ℕ → Left Found
-withdraw_in rows eui = changed rows (meter_at rows eui) (withdrawn (get_or rows (meter_at rows eui) no_row)) (found.At (meter_at rows eui)) (found.Refused 21)
+withdraw_in rows eui = changed rows (meter_at rows eui) (withdrawn (get_or rows (meter_at rows eui) no_row)) (Ok (meter_at rows eui)) (Err NoRow)
 
 -- what an uplink makes of the meter's row
 abbrev pub heard_in : List Row → ℕ → ℕ → ℕ → Heard
 heard_in rows eui counter station = hear_of (meter_at rows eui) (get_or rows (meter_at rows eui) no_row) counter station
 
 -- 25, then 21, else the row's rule
-unfoldable pub uplink_in : List Row → ℕ → ℕ → ℕ → Left Credit
+unfoldable pub uplink_in : List Row → ℕ → ℕ → ℕ → Left Uplinked
 uplink_in rows eui counter station =
     cond (ltb 63 station)
-    (left (credit.Refused 25) rows)
-    (changed rows (meter_at rows eui) (heard_in rows eui counter station).row (heard_in rows eui counter station).answer (credit.Refused 21))
+    (left (Err StationNumber) rows)
+    (changed rows (meter_at rows eui) (heard_in rows eui counter station).row (heard_in rows eui counter station).answer (Err NoRow))

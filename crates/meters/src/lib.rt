@@ -2,14 +2,12 @@
 #![tactic(auto)]
 
 ghost use Rattle.std.specs.Prelude.{◌≡◌, ◌<◌};
-ghost use Rattle.meters.specs.{Rows.hear_of, Code.Store.Even};
-ghost use Rattle.meters.specs.Columns.{columns, told_place, told_credit, find_on, enrol_on, withdraw_on, uplink_on};
+ghost use Rattle.meters.specs.Rows.{hear_of};
 
-mod refusals;
-mod store;
+mod table;
 
-// Stations are numbered from 0.
-const MOST_STATION: u64 = 63;
+use refusal::Refusal;
+pub use table::{Credits, Enrols, Finds, Table, Withdraws};
 
 // A row's values. `used` is 0 for a free row; bit s of `heard` is station s.
 #[derive(Clone, Copy)]
@@ -21,29 +19,29 @@ pub struct Row {
     pub heard: u64,
 }
 
-// A row's number, or the number of the refusal.
-#[derive(Clone, Copy)]
-pub enum Found {
-    At(usize),
-    Refused(u8),
+#[derive(Clone, Copy, Debug, PartialEq, Eq)]
+pub enum Kind {
+    New,
+    Copy,
 }
 
-// A new packet or a copy, with the number of stations that heard it so far and the meter's row; or the number of the refusal.
-#[derive(Clone, Copy)]
-pub enum Credit {
-    New(u32, usize),
-    Copy(u32, usize),
-    Refused(u8),
+// A new packet or a copy, with the number of stations that heard it so far and the meter's row.
+#[derive(Clone, Copy, Debug, PartialEq, Eq)]
+pub struct Credit {
+    pub kind: Kind,
+    pub hearers: u32,
+    pub row: usize,
 }
 
 // What an uplink makes of a row, and its answer.
 #[derive(Clone, Copy)]
 pub struct Heard {
     pub row: Row,
-    pub answer: Credit,
+    pub answer: Result<Credit, Refusal>,
 }
 
 // What the packet with this counter, heard by this station, makes of the meter's row, which is row i.
+#[tactic(auto, using(crate::proofs::Laws::steps))]
 fn hear(i: usize, row: Row, counter: u32, station: u64) -> Heard
     requires { station < 64 }
     ensures { result ≡ hear_of i row counter station }
@@ -55,7 +53,11 @@ fn hear(i: usize, row: Row, counter: u32, station: u64) -> Heard
         next.heard = bit;
         return Heard {
             row: next,
-            answer: Credit::New(1, i),
+            answer: Ok(Credit {
+                kind: Kind::New,
+                hearers: 1,
+                row: i,
+            }),
         };
     }
     if (counter == row.last) & (row.heard != 0) {
@@ -63,182 +65,15 @@ fn hear(i: usize, row: Row, counter: u32, station: u64) -> Heard
         next.heard = heard;
         return Heard {
             row: next,
-            answer: Credit::Copy(u64::count_ones(heard), i),
+            answer: Ok(Credit {
+                kind: Kind::Copy,
+                hearers: heard.count_ones(),
+                row: i,
+            }),
         };
     }
     Heard {
-        row: row,
-        answer: Credit::Refused(refusals::STALE),
+        row,
+        answer: Err(Refusal::Stale),
     }
-}
-
-// The meter's row number; 24, 21.
-pub fn find(
-    used: &[u8],
-    euis: &[u64],
-    shorts: &[u16],
-    lasts: &[u32],
-    heards: &[u64],
-    eui: u64,
-) -> Found
-    ensures { told_place result (columns used.now euis.now shorts.now lasts.now heards.now)
-        ≡ find_on (columns used.now euis.now shorts.now lasts.now heards.now) eui }
-{
-    if !store::is_even(
-        used.len(),
-        euis.len(),
-        shorts.len(),
-        lasts.len(),
-        heards.len(),
-    ) {
-        return Found::Refused(refusals::UNEQUAL_COLUMNS);
-    }
-    let i = store::place(used, euis, eui);
-    if used.len() <= i {
-        return Found::Refused(refusals::NO_ROW);
-    }
-    Found::At(i)
-}
-
-// Takes the lowest free row for the meter; 24, 22, 23.
-pub fn enrol(
-    used: &mut [u8],
-    euis: &mut [u64],
-    shorts: &mut [u16],
-    lasts: &mut [u32],
-    heards: &mut [u64],
-    eui: u64,
-    short: u16,
-    counter: u32,
-) -> Found
-    ensures { told_place result (columns used.new euis.new shorts.new lasts.new heards.new)
-        ≡ enrol_on (columns used.old euis.old shorts.old lasts.old heards.old) eui short counter }
-{
-    if !store::is_even(
-        used.len(),
-        euis.len(),
-        shorts.len(),
-        lasts.len(),
-        heards.len(),
-    ) {
-        return Found::Refused(refusals::UNEQUAL_COLUMNS);
-    }
-    enrol_in(used, euis, shorts, lasts, heards, eui, short, counter)
-}
-
-// The same on columns of equal lengths.
-fn enrol_in(
-    used: &mut [u8],
-    euis: &mut [u64],
-    shorts: &mut [u16],
-    lasts: &mut [u32],
-    heards: &mut [u64],
-    eui: u64,
-    short: u16,
-    counter: u32,
-) -> Found
-    requires { Even (columns used.old euis.old shorts.old lasts.old heards.old) }
-    ensures { told_place result (columns used.new euis.new shorts.new lasts.new heards.new)
-        ≡ enrol_on (columns used.old euis.old shorts.old lasts.old heards.old) eui short counter }
-{
-    if store::place(used, euis, eui) < used.len() {
-        return Found::Refused(refusals::ALREADY_ENROLLED);
-    }
-    let i = store::free_place(used);
-    if used.len() <= i {
-        return Found::Refused(refusals::NO_FREE_ROW);
-    }
-    let row = Row {
-        used: 1,
-        eui: eui,
-        short: short,
-        last: counter,
-        heard: 0,
-    };
-    store::put_row(used, euis, shorts, lasts, heards, i, row);
-    Found::At(i)
-}
-
-// Frees the meter's row; 24, 21.
-pub fn withdraw(
-    used: &mut [u8],
-    euis: &[u64],
-    shorts: &[u16],
-    lasts: &[u32],
-    heards: &[u64],
-    eui: u64,
-) -> Found
-    ensures { told_place result (columns used.new euis.now shorts.now lasts.now heards.now)
-        ≡ withdraw_on (columns used.old euis.now shorts.now lasts.now heards.now) eui }
-{
-    if !store::is_even(
-        used.len(),
-        euis.len(),
-        shorts.len(),
-        lasts.len(),
-        heards.len(),
-    ) {
-        return Found::Refused(refusals::UNEQUAL_COLUMNS);
-    }
-    let i = store::place(used, euis, eui);
-    if used.len() <= i {
-        return Found::Refused(refusals::NO_ROW);
-    }
-    used[i] = 0;
-    Found::At(i)
-}
-
-// Credits a packet to the meter; 24, 25, 21, 26.
-pub fn uplink(
-    used: &[u8],
-    euis: &[u64],
-    shorts: &[u16],
-    lasts: &mut [u32],
-    heards: &mut [u64],
-    eui: u64,
-    counter: u32,
-    station: u64,
-) -> Credit
-    ensures { told_credit result (columns used.now euis.now shorts.now lasts.new heards.new)
-        ≡ uplink_on (columns used.now euis.now shorts.now lasts.old heards.old) eui counter station }
-{
-    if !store::is_even(
-        used.len(),
-        euis.len(),
-        shorts.len(),
-        lasts.len(),
-        heards.len(),
-    ) {
-        return Credit::Refused(refusals::UNEQUAL_COLUMNS);
-    }
-    uplink_in(used, euis, shorts, lasts, heards, eui, counter, station)
-}
-
-// The same on columns of equal lengths.
-fn uplink_in(
-    used: &[u8],
-    euis: &[u64],
-    shorts: &[u16],
-    lasts: &mut [u32],
-    heards: &mut [u64],
-    eui: u64,
-    counter: u32,
-    station: u64,
-) -> Credit
-    requires { Even (columns used.now euis.now shorts.now lasts.old heards.old) }
-    ensures { told_credit result (columns used.now euis.now shorts.now lasts.new heards.new)
-        ≡ uplink_on (columns used.now euis.now shorts.now lasts.old heards.old) eui counter station }
-{
-    if MOST_STATION < station {
-        return Credit::Refused(refusals::STATION_NUMBER);
-    }
-    let i = store::place(used, euis, eui);
-    if used.len() <= i {
-        return Credit::Refused(refusals::NO_ROW);
-    }
-    let row = store::row_at(used, euis, shorts, lasts, heards, i);
-    let told = hear(i, row, counter, station);
-    let next = told.row;
-    store::put_heard(lasts, heards, i, next);
-    told.answer
 }

@@ -1,9 +1,7 @@
 -- A message arrives: what stands before it, and the session's answer. Assumes nothing.
-use mathlib.Core.{Path.◌≡◌, Path.refl, Path.sym, Path.ap, Path.◌∙◌, List.List}
+use mathlib.Core.{Path.◌≡◌, Path.refl, Path.sym, Path.ap, List.List}
 use Prim.Native.Nat.{ℕ}
-use lib.Dec.{eqb}
 use borrow.Author.Tests.{eq-eqb, ne_eqb}
-use Rattle.octets.specs.Choice.{either}
 use Rattle.names.specs.Names.{bytes, commands, command_of, place_in}
 use Rattle.record.specs.declared.{Body.Body, Message.Message}
 use Rattle.record.specs.Record.{command_in}

@@ -1,5 +1,6 @@
 -- There is one result of playing a payload or a frame, and no second. Assumes nothing.
 use mathlib.Core.{Path.◌≡◌, Path.refl, Path.sym, Path.ap, Path.◌∙◌, List.List}
+use Rattle.std.specs.Prelude.{Option}
 use Prim.Native.Nat.{ℕ}
 use lib.ListN.{length}
 use Rattle.frame.specs.Frame.{payload_of}
@@ -21,7 +22,7 @@ module _ (h : Lends) where
       m.same ∙ ap (λ (a : Answered). play_of h d c k a) (answers_once payload d d c c k p q m n) ∙ sym n.same
 
   module _ (x : Centre) (k : ℕ) (frame : List ℕ) where
-    pub frame_told : (y : Centre) × ((r : Credited) × PlaysFrame h x k frame y r)
+    pub frame_told : (y : Centre) × ((r : Option Credited) × PlaysFrame h x k frame y r)
     frame_told =
         let p = plays_told (payload_of (length frame) frame) (session_of x.sessions k) x.table k in (
           centre (with_session x.sessions k p.0.session) p.0.table,
@@ -31,7 +32,7 @@ module _ (h : Lends) where
           ),
         )
 
-    module _ (y z : Centre) (r q : Credited) (m : PlaysFrame h x k frame y r) (n : PlaysFrame h x k frame z q) where
+    module _ (y z : Centre) (r q : Option Credited) (m : PlaysFrame h x k frame y r) (n : PlaysFrame h x k frame z q) where
       same_played : m.played ≡ n.played
       same_played = plays_once (payload_of (length frame) frame) (session_of x.sessions k) x.table k m.played n.played m.plays n.plays
 

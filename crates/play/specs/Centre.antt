@@ -1,5 +1,5 @@
 -- The sessions of all stations, one behind the other, and the table: what a frame of one station leaves of both.
-use Rattle.std.specs.Prelude.{ℕ, ◌*◌, length, take, drop}
+use Rattle.std.specs.Prelude.{ℕ, ◌*◌, length, take, drop, Option}
 use mathlib.Core.{Path.◌≡◌, List.List, List.◌++◌}
 use Rattle.frame.specs.Frame.{payload_of}
 use Rattle.session.specs.Image.{session_size}
@@ -27,7 +27,7 @@ abbrev pub with_session : List ℕ → ℕ → List ℕ → List ℕ
 with_session d k x = take (session_size * k) d ++ (x ++ drop session_size (drop (session_size * k) d))
 
 -- a whole frame of station k: its payload is all that stands behind the head
-pub record PlaysFrame (h : Lends) (before : Centre) (k : ℕ) (frame : List ℕ) (after : Centre) (r : Credited) : Type 0 where
+pub record PlaysFrame (h : Lends) (before : Centre) (k : ℕ) (frame : List ℕ) (after : Centre) (r : Option Credited) : Type 0 where
   pub played : Played
   pub plays : Plays h (payload_of (length frame) frame) (session_of before.sessions k) before.table k played
   pub sessions : after.sessions ≡ with_session before.sessions k played.session

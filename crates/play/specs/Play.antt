@@ -1,12 +1,14 @@
 -- Document 02, Q-3: a frame's payload played through its station's session and the meter table. "Each step gives the state of those live calls."
-use mathlib.Core.{Path.◌≡◌, Bool.true, Bool.false, List.List}
-use Rattle.std.specs.Prelude.{ℕ}
+use mathlib.Core.{Path.◌≡◌, List.List}
+use Rattle.std.specs.Prelude.{ℕ, Option, Some, None, Result, Ok, Err}
 use lib.{Dec.eqb, ListN.replicate}
 use Rattle.octets.specs.Choice.{either}
 use Rattle.names.specs.Names.{bytes, command_of}
-use Rattle.record.specs.declared.{Body.Body, Message.Message}
+use Rattle.refusal.specs.declared.Broken.{Broken}
+use Rattle.record.specs.declared.{Body.Body, Message.Message, Counted.Counted}
 use Rattle.record.specs.{Record.command_in, Meant.Answered, Meant.lent_size, Meant.Meant}
-use Rattle.meters.specs.declared.Credit.{Credit, TheVariants.New, TheVariants.Copy, TheVariants.Refused}
+use Rattle.meters.specs.declared.Kind.{Kind, TheVariants.New, TheVariants.Copy}
+use Rattle.meters.specs.Answers.{Uplinked}
 use Rattle.meters.specs.Columns.{Columns, uplink_on}
 use Rattle.steps.specs.Called.{Called, step_refusal, arrive_on, lost_session}
 use Rattle.play.specs.declared.Credited.{Credited}
@@ -15,16 +17,16 @@ use Rattle.play.specs.declared.Credited.{Credited}
 pub record Played : Type 0 where
   pub session : List ℕ
   pub table : Columns
-  pub reading : Credited
+  pub reading : Option Credited
 
-abbrev pub played : List ℕ → Columns → Credited → Played
+abbrev pub played : List ℕ → Columns → Option Credited → Played
 played d c r = record { session = d; table = c; reading = r }
 
-abbrev pub no_reading : Credited
-no_reading = record { is_new = false; eui = 0; counter = 0 }
+abbrev pub no_reading : Option Credited
+no_reading = None
 
-abbrev pub new_reading : ℕ → ℕ → Credited
-new_reading eui counter = record { is_new = true; eui = eui; counter = counter }
+abbrev pub new_reading : ℕ → ℕ → Option Credited
+new_reading eui counter = Some (record { eui = eui; counter = counter })
 
 -- "A con is played as after a lost connection"
 unfoldable pub before_arrival : Body → List ℕ → List ℕ
@@ -48,10 +50,13 @@ abbrev pub replaying : Lends
 replaying = record { sc_eui = 0; uuid = zeros 16; sign = zeros 4; room = zeros 1909 }
 
 -- "a reading new there"
-unfoldable pub reading_of : Credit → ℕ → ℕ → Credited
-reading_of (New k i) eui counter = new_reading eui counter
-reading_of (Copy k i) eui counter = no_reading
-reading_of (Refused n) eui counter = no_reading
+abbrev pub reading_as : Kind → ℕ → ℕ → Option Credited
+reading_as New eui counter = new_reading eui counter
+reading_as Copy eui counter = no_reading
+
+unfoldable pub reading_of : Uplinked → ℕ → ℕ → Option Credited
+reading_of (Ok c) eui counter = reading_as c.kind eui counter
+reading_of (Err r) eui counter = no_reading
 
 unfoldable pub credited : List ℕ → Columns → ℕ → ℕ → ℕ → Played
 credited d c station eui counter = played d (uplink_on c eui counter station).columns (reading_of (uplink_on c eui counter station).answer eui counter)
@@ -74,11 +79,12 @@ unfoldable pub after_arrival : Columns → ℕ → Body → Called → Played
 after_arrival c station b a = either (eqb (step_refusal a.answer) 0) (λ _. to_table a.session c station b) (λ _. played a.session c no_reading)
 
 -- the live calls with a payload: a payload that is refused does nothing
+abbrev pub play_told : Lends → List ℕ → Columns → ℕ → List ℕ → Result Counted Broken → Played
+play_told h d c station lent (Ok x) = after_arrival c station x.message.body (arrival h d x.message lent)
+play_told h d c station lent (Err b) = played d c no_reading
+
 unfoldable pub play_of : Lends → List ℕ → Columns → ℕ → Answered → Played
-play_of h d c station a =
-    either (eqb a.told.refusal 0)
-    (λ _. after_arrival c station a.told.message.body (arrival h d a.told.message a.lent))
-    (λ _. played d c no_reading)
+play_of h d c station a = play_told h d c station a.lent a.told
 
 -- bytes are lent for the message's data, and thrown away
 abbrev pub scratch : List ℕ

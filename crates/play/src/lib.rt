@@ -4,100 +4,64 @@
 ghost use mathlib.Core.{Path.◌≡◌, List.List};
 ghost use Rattle.std.specs.Prelude.{ℕ, ◌*◌, ◌<◌, length, is_ok};
 ghost use Rattle.session.specs.Image.{session_size};
-ghost use Rattle.meters.specs.Columns.{columns};
-ghost use Rattle.play.specs.Play.{Played, played, no_reading, new_reading, before_arrival, replaying, arrival, credited, to_table, Plays};
+ghost use Rattle.meters.specs.Lent.{credited_in, StillCredits};
+ghost use Rattle.play.specs.Play.{Played, played, before_arrival, replaying, arrival, credited, to_table, Plays};
 ghost use Rattle.play.specs.Centre.{stations, centre, PlaysFrame};
 
-use meters::Credit;
+use meters::{Credits, Kind};
 use record::{Body, Message, UlData};
 
 // The bytes of one session.
 const SESSION: usize = 368;
 
-// A reading that is new to the table; else zeros.
-#[derive(Clone, Copy)]
+// A reading that is new to the table.
+#[derive(Clone, Copy, Debug, PartialEq, Eq)]
 pub struct Credited {
-    pub is_new: bool,
     pub eui: u64,
     pub counter: u32,
 }
 
 // A payload that arrived from a station.
+#[tactic(auto, using(crate::proofs::Playing::playing))]
 pub fn play(
     session: &mut [u8],
-    used: &[u8],
-    euis: &[u64],
-    shorts: &[u16],
-    lasts: &mut [u32],
-    heards: &mut [u64],
+    table: &mut Credits,
     station: u64,
     payload: &[u8],
-) -> Credited
-    ensures { Plays replaying payload.now session.old (columns used.now euis.now shorts.now lasts.old heards.old) station
-        (played session.new (columns used.now euis.now shorts.now lasts.new heards.new) result) }
+) -> Option<Credited>
+    ensures plays { Plays replaying payload.now session.old (credited_in table.old) station
+        (played session.new (credited_in table.new) result) }
+    ensures lent { StillCredits table.old table.new }
 {
     let mut lent = [0u8; 880];
-    let told = reading::read(payload, &mut lent);
-    if told.refusal != 0 {
-        return nothing();
-    }
-    let m = told.message;
+    let Ok(counted) = reading::read(payload, &mut lent) else {
+        return None;
+    };
+    let m = counted.message;
     let b = m.body;
-    let accepted = accepts(session, m, &lent);
-    if !accepted {
-        return nothing();
+    if !accepts(session, m, &lent) {
+        return None;
     }
-    to_table(used, euis, shorts, lasts, heards, station, b)
+    to_table(table, station, b)
 }
 
 // A whole frame that arrived from a station; the sessions of all stations stand one behind the other.
+#[tactic(auto, using(crate::proofs::Framing::frame_plays))]
 pub fn play_frame(
     sessions: &mut [u8],
-    used: &[u8],
-    euis: &[u64],
-    shorts: &[u16],
-    lasts: &mut [u32],
-    heards: &mut [u64],
+    table: &mut Credits,
     station: u64,
     frame: &[u8],
-) -> Credited
+) -> Option<Credited>
     requires { (length sessions.old ≡ session_size * stations) × (station < stations) }
-    ensures { PlaysFrame replaying (centre sessions.old (columns used.now euis.now shorts.now lasts.old heards.old)) station frame.now
-        (centre sessions.new (columns used.now euis.now shorts.now lasts.new heards.new)) result }
+    ensures plays { PlaysFrame replaying (centre sessions.old (credited_in table.old)) station frame.now
+        (centre sessions.new (credited_in table.new)) result }
+    ensures lent { StillCredits table.old table.new }
 {
     let a = SESSION * (station as usize);
     let e = a + SESSION;
     let payload = frame::payload(frame, frame.len());
-    play(
-        &mut sessions[a..e],
-        used,
-        euis,
-        shorts,
-        lasts,
-        heards,
-        station,
-        payload,
-    )
-}
-
-fn nothing() -> Credited
-    ensures { result ≡ no_reading }
-{
-    Credited {
-        is_new: false,
-        eui: 0,
-        counter: 0,
-    }
-}
-
-fn new_reading(eui: u64, counter: u32) -> Credited
-    ensures { result ≡ new_reading eui counter }
-{
-    Credited {
-        is_new: true,
-        eui: eui,
-        counter: counter,
-    }
+    play(&mut sessions[a..e], table, station, payload)
 }
 
 // The connection is lost where a con arrives.
@@ -125,42 +89,29 @@ fn accepts(session: &mut [u8], m: Message, lent: &[u8]) -> bool
 }
 
 // An accepted message: a ulData goes to the table.
-fn to_table(
-    used: &[u8],
-    euis: &[u64],
-    shorts: &[u16],
-    lasts: &mut [u32],
-    heards: &mut [u64],
-    station: u64,
-    b: Body,
-) -> Credited
-    ensures { (d : List ℕ) → ◌≡◌ {A = Played} (played d (columns used.now euis.now shorts.now lasts.new heards.new) result)
-        (to_table d (columns used.now euis.now shorts.now lasts.old heards.old) station b) }
+fn to_table(table: &mut Credits, station: u64, b: Body) -> Option<Credited>
+    ensures table { (d : List ℕ) → ◌≡◌ {A = Played} (played d (credited_in table.new) result)
+        (to_table d (credited_in table.old) station b) }
+    ensures lent { StillCredits table.old table.new }
 {
     match b {
-        Body::UlData(x) => credit(used, euis, shorts, lasts, heards, station, x),
-        _ => nothing(),
+        Body::UlData(x) => credit(table, station, x),
+        _ => None,
     }
 }
 
-fn credit(
-    used: &[u8],
-    euis: &[u64],
-    shorts: &[u16],
-    lasts: &mut [u32],
-    heards: &mut [u64],
-    station: u64,
-    x: UlData,
-) -> Credited
-    ensures { (d : List ℕ) → ◌≡◌ {A = Played} (played d (columns used.now euis.now shorts.now lasts.new heards.new) result)
-        (credited d (columns used.now euis.now shorts.now lasts.old heards.old) station x.packet.ep_eui x.packet.packet_cnt) }
+fn credit(table: &mut Credits, station: u64, x: UlData) -> Option<Credited>
+    ensures table { (d : List ℕ) → ◌≡◌ {A = Played} (played d (credited_in table.new) result)
+        (credited d (credited_in table.old) station x.packet.ep_eui x.packet.packet_cnt) }
+    ensures lent { StillCredits table.old table.new }
 {
     let eui = x.packet.ep_eui;
     let counter = x.packet.packet_cnt;
-    let answer = meters::uplink(used, euis, shorts, lasts, heards, eui, counter, station);
-    match answer {
-        Credit::New(_, _) => new_reading(eui, counter),
-        Credit::Copy(_, _) => nothing(),
-        Credit::Refused(_) => nothing(),
+    let Ok(credit) = table.uplink(eui, counter, station) else {
+        return None;
+    };
+    match credit.kind {
+        Kind::New => Some(Credited { eui, counter }),
+        Kind::Copy => None,
     }
 }

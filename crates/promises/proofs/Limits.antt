@@ -11,8 +11,7 @@ use Rattle.element.specs.{Lead.lead_bytes, Lead.row_in, Lead.head_of, Tree.Tree.
 use Rattle.element.specs.Form.{broken, fault_of, body_of, span_of, times, element_of, walk_of}
 use Rattle.element.specs.Tree.{Tree, Trees, Pairs, bytes_of, count_of, depth_of, part_count, pair_count, Lawful}
 use Rattle.message.specs.Fields.{lists, list_in}
-use Rattle.record.specs.Meant.{Answered, lent_size, Meant}
-use Rattle.record.proofs.Answered.{broken_told}
+use Rattle.record.specs.Meant.{Answered, refusal_told, lent_size, Meant}
 use Rattle.promises.specs.Steady.{Changed, Carries, Alike}
 use Rattle.promises.proofs.Tested.{is_lawful, lawful, is_payload, says}
 use Rattle.promises.proofs.Moves.{behind, put_in}
@@ -73,6 +72,6 @@ over_refused = refl
 -- so without the limits the theorem would be false
 pub over_unlike : (d : List ℕ) → lent_size ≤ length d → (r q : Answered) → Meant P d r → Meant (P-heaped 1018) d q → Alike r q → ⊥
 over_unlike d h r q M N A =
-    let e : r.told.refusal ≡ 0 = ap (λ (x : Answered). x.told.refusal) (answered P ping ping_said ping_1 [] added_read.0 d h r M) in
-    let f : q.told.refusal ≡ 7 = ap (λ (x : Answered). x.told.refusal) (broken_told (P-heaped 1018) d q N h (record { refusal = TooManyElements; place = 1042 }) over_refused) in
+    let e : refusal_told r.told ≡ 0 = ap (λ (x : Answered). refusal_told x.told) (answered P ping ping_said ping_1 [] added_read.0 d h r M) in
+    let f : refusal_told q.told ≡ 7 = ap (λ (x : Answered). refusal_told x.told) (N.broken h (record { refusal = TooManyElements; place = 1042 }) over_refused) in
     omega (arith, A.refusal)

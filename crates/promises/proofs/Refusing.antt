@@ -18,8 +18,8 @@ use Rattle.session.proofs.Cases.{by_test}
 use Rattle.refusal.specs.declared.Refusal.TheVariants.{Invalid}
 use Rattle.steps.specs.Called.{step_refusal, called_by, step_refuses, host_of, arrive_on}
 use Rattle.steps.proofs.Kept.{own_refusal, own_or_20}
-use Rattle.meters.specs.declared.{Row.Row, Heard.Heard, Credit.Credit}
-use Rattle.meters.specs.Answers.{credit_refusal_of}
+use Rattle.meters.specs.declared.{Row.Row, Heard.Heard}
+use Rattle.meters.specs.Answers.{Uplinked, credit_refusal_of}
 use Rattle.meters.specs.Stations.{nobody}
 use Rattle.meters.specs.Rows.{hear_of}
 use Rattle.meters.specs.Table.{Left, meter_at, no_row, uplink_in}
@@ -81,12 +81,12 @@ heard_small i r counter station =
 in_small : (rows : List Row) (eui counter station : ℕ) → credit_refusal_of (uplink_in rows eui counter station).answer < 256
 unfolding uplink_in
 in_small rows eui counter station =
-    let P : Left Credit → Type 0 = λ x. credit_refusal_of x.answer < 256 in
+    let P : Left Uplinked → Type 0 = λ x. credit_refusal_of x.answer < 256 in
     by_cond P (ltb 63 station) _ _ (lit< tt)
     (by_cond P (ltb (meter_at rows eui) (length rows)) _ _ (heard_small (meter_at rows eui) (get_or rows (meter_at rows eui) no_row) counter station) (lit< tt))
 
 -- the number of the answer, which is a byte
-pub record Told (d : Done Credit) : Type 0 where
+pub record Told (d : Done Uplinked) : Type 0 where
   pub number : d.refusal ≡ credit_refusal_of d.answer
   pub small : credit_refusal_of d.answer < 256
 

@@ -19,18 +19,19 @@ use Rattle.record.specs.Meant.{Answered, answer_of, lent_size, Meant}
 use Rattle.record.proofs.{Typed.Typed, Answered.answer_meant, Answered.broken_told, Answers.one_answer, Answers.read_writes}
 use Rattle.session.specs.{Arrive.arrives}
 use Rattle.steps.specs.Called.{step_refusal, Called, arrive_on}
-use Rattle.meters.specs.declared.Credit.{Credit, TheVariants.New, TheVariants.Copy, TheVariants.Refused as Stale}
-use Rattle.meters.specs.Answers.{credit_refusal_of}
+use Rattle.std.specs.Prelude.{Option, Ok, Err}
+use Rattle.meters.specs.declared.Kind.{Kind, TheVariants.New, TheVariants.Copy}
+use Rattle.meters.specs.Answers.{Uplinked, credit_refusal_of}
 use Rattle.meters.specs.Columns.{Columns, Done, uplink_on}
 use Rattle.writer.proofs.Payloads.{fits_named}
 use Rattle.layout.specs.{Image.message_size, Image.message_image, Taken.message_at}
 use Rattle.layout.proofs.Back.{image_size, message_back}
-use Rattle.chozukpima.specs.Packed.{packed, answer_refusal, answer_happened, credit_kind}
+use Rattle.chozukpima.specs.Packed.{packed, answer_refusal, answer_happened, kind_number, credit_kind}
 use Rattle.chozukpima.specs.{Messages.filled, Messages.Filled, Messages.told_into, Messages.Got, Messages.got, Messages.ReadInto}
 use Rattle.chozukpima.specs.Sessions.{Returned, returned, step_answer, arrive_returns}
 use Rattle.chozukpima.proofs.Kept.{refusal_back}
 use Rattle.play.specs.declared.Credited.{Credited}
-use Rattle.play.specs.Play.{Lends, Played, played, no_reading, new_reading, before_arrival, arrival, reading_of as creditedAs, credited, to_table, after_arrival, play_of, scratch, Plays}
+use Rattle.play.specs.Play.{Lends, Played, played, no_reading, new_reading, before_arrival, arrival, reading_of as creditedAs, reading_as, credited, to_table, after_arrival, play_of, scratch, Plays}
 use Rattle.play.proofs.Settled.{plays_once}
 use Rattle.promises.specs.Played.{before_call, arrive_call, uplink_call, Calls}
 use Rattle.promises.proofs.{Lettered.Proper, Lettered.reading_proper, Roomy.fitting_held, Refusing.walk_small, Refusing.arrival_small, Refusing.uplink_told}
@@ -92,17 +93,23 @@ told_whole t m z = simp (eq-eqb t.refusal 0 z) refl
 
 -- an uplink's answer says that a reading is new exactly if it is
 module _ (eui counter : ℕ) where
-  is_new : (a : Credit) (r v : ℕ) → r ≡ credit_refusal_of a → credit_refusal_of a < 256 → answer_happened (packed r (credit_kind a) v) ≡ 17 → creditedAs a eui counter ≡ new_reading eui counter
+  is_new : (a : Uplinked) (r v : ℕ) → r ≡ credit_refusal_of a → credit_refusal_of a < 256 → answer_happened (packed r (credit_kind a) v) ≡ 17 → creditedAs a eui counter ≡ new_reading eui counter
   unfolding creditedAs
-  is_new (New k i) r v e h q = refl
-  is_new (Copy k i) r v e h q = let b = happened_back r 18 v (omega arith) (lit< tt) in absurd (omega arith)
-  is_new (Stale n) r v e h q = let b = happened_back r 0 v (omega arith) (lit< tt) in absurd (omega arith)
+  is_new (Ok c) r v e h q = by c.kind q
+    where
+      by : (k : Kind) → answer_happened (packed r (kind_number k) v) ≡ 17 → reading_as k eui counter ≡ new_reading eui counter
+      by New f = refl
+      by Copy f = let b = happened_back r 18 v (omega arith) (lit< tt) in absurd (omega arith)
+  is_new (Err n) r v e h q = let b = happened_back r 0 v (omega arith) (lit< tt) in absurd (omega arith)
 
-  not_new : (a : Credit) (r v : ℕ) → r ≡ credit_refusal_of a → credit_refusal_of a < 256 → (answer_happened (packed r (credit_kind a) v) ≡ 17 → ⊥) → creditedAs a eui counter ≡ no_reading
+  not_new : (a : Uplinked) (r v : ℕ) → r ≡ credit_refusal_of a → credit_refusal_of a < 256 → (answer_happened (packed r (credit_kind a) v) ≡ 17 → ⊥) → creditedAs a eui counter ≡ no_reading
   unfolding creditedAs
-  not_new (New k i) r v e h q = absurd (q (happened_back r 17 v (omega arith) (lit< tt)))
-  not_new (Copy k i) r v e h q = refl
-  not_new (Stale n) r v e h q = refl
+  not_new (Ok c) r v e h q = by c.kind q
+    where
+      by : (k : Kind) → (answer_happened (packed r (kind_number k) v) ≡ 17 → ⊥) → reading_as k eui counter ≡ no_reading
+      by New f = absurd (f (happened_back r 17 v (omega arith) (lit< tt)))
+      by Copy f = refl
+  not_new (Err n) r v e h q = refl
 
 -- the body of a message: that of a ulData, or another
 ul_data_number : command_of (bytes "ulData") ≡ 7
@@ -133,10 +140,10 @@ sort (Body.Bare i) t = inr (bare_other i t)
 -- the definition, by its tests
 module _ (c : Columns) (k : ℕ) where
   module _ (d : List ℕ) (x : UlData) where
-    abbrev credit : Done Credit
+    abbrev credit : Done Uplinked
     credit = uplink_on c x.packet.ep_eui x.packet.packet_cnt k
 
-    abbrev Counted : Credited → Type 0
+    abbrev Counted : Option Credited → Type 0
     Counted r = played d (uplink_call c x k).columns r ≡ to_table d c k (Body.UlData x)
 
     counts_new : answer_happened (uplink_call c x k).answer ≡ 17 → Counted (new_reading x.packet.ep_eui x.packet.packet_cnt)
@@ -272,7 +279,7 @@ module _ (h : Lends) (payload m e d : List ℕ) (c : Columns) (k : ℕ) (are : I
           plays _
           (ap (λ (s : List ℕ). played s c no_reading) session_is ∙ after_refused c k own.body came (λ z. n (arrival_is ∙ z)) ∙ play_read c k h d there zero_there)
 
-      accepted_plays : answer_refusal (arrive_call h d g).answer ≡ 0 → (t : Columns) (x : Credited) → ((s : List ℕ) → played s t x ≡ to_table s c k (message_at g.message).body)
+      accepted_plays : answer_refusal (arrive_call h d g).answer ≡ 0 → (t : Columns) (x : Option Credited) → ((s : List ℕ) → played s t x ≡ to_table s c k (message_at g.message).body)
           → Plays h payload d c k (played (arrive_call h d g).session t x)
       accepted_plays z t x f =
           plays _

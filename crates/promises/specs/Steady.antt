@@ -9,7 +9,7 @@ use Rattle.element.specs.Meaning.Element.{whole, single, double, list}
 use Rattle.names.specs.Names.{bytes, same_bytes, command_of}
 use Rattle.field.specs.{Kind.Kind, Cell.Said}
 use Rattle.message.specs.{Fields.Field, Fields.fields_of, Reading.said_of, Reading.command_said}
-use Rattle.record.specs.Meant.{Answered}
+use Rattle.record.specs.Meant.{Answered, refusal_told, place_told, message_told}
 
 -- a key that none of these fields has
 abbrev pub Strange : List Field → List ℕ → Type 0
@@ -89,7 +89,7 @@ pub record Carries (s : List ℕ) (ps : Pairs) : Type 0 where
 
 -- the same record and lent bytes, or the same refusal; the count of elements may differ
 pub record Alike (r q : Answered) : Type 0 where
-  pub refusal : r.told.refusal ≡ q.told.refusal
-  pub place : r.told.place ≡ q.told.place
-  pub message : r.told.message ≡ q.told.message
+  pub refusal : refusal_told r.told ≡ refusal_told q.told
+  pub place : place_told r.told ≡ place_told q.told
+  pub message : message_told r.told ≡ message_told q.told
   pub lent : r.lent ≡ q.lent

@@ -1,5 +1,6 @@
 // The enrolments, one turn after another.
 use hand::{Failed, Hand};
+use meters::Enrols;
 use std::io::{Read, Write};
 
 // The bytes at hand; whether all enrolments were taken.
@@ -15,11 +16,7 @@ pub fn enrol_all<R: Read, W: Write>(
     output: &mut W,
     held: &mut [u8],
     out: &mut [u8],
-    used: &mut [u8],
-    euis: &mut [u64],
-    shorts: &mut [u16],
-    lasts: &mut [u32],
-    heards: &mut [u64],
+    table: &mut Enrols,
 ) -> Result<bool, Failed> {
     let mut s = Enrolling {
         hand: Hand::empty(),
@@ -29,9 +26,7 @@ pub fn enrol_all<R: Read, W: Write>(
         if s.hand.ended {
             break;
         }
-        enrol(
-            enrolments, output, held, out, used, euis, shorts, lasts, heards, &mut s,
-        )?;
+        enrol(enrolments, output, held, out, table, &mut s)?;
     }
     s.hand.flushed(output, out)?;
     Ok(s.complete)
@@ -43,11 +38,7 @@ fn enrol<R: Read, W: Write>(
     output: &mut W,
     held: &mut [u8],
     out: &mut [u8],
-    used: &mut [u8],
-    euis: &mut [u64],
-    shorts: &mut [u16],
-    lasts: &mut [u32],
-    heards: &mut [u64],
+    table: &mut Enrols,
     s: &mut Enrolling,
 ) -> Result<(), Failed> {
     let h = s.hand;
@@ -55,11 +46,7 @@ fn enrol<R: Read, W: Write>(
     let took = day::enrol(
         hand::part(held, h.from, h.to),
         h.last,
-        used,
-        euis,
-        shorts,
-        lasts,
-        heards,
+        table,
         &mut out[filled..],
     );
     s.complete = took.ended & (took.length == 0);

@@ -8,6 +8,7 @@ mod progress;
 mod records;
 
 use hand::Failed;
+use meters::Table;
 use std::io::{Read, Stderr, Write};
 use std::os::fd::AsRawFd;
 use std::process::ExitCode;
@@ -49,21 +50,31 @@ fn replay<T: Read, E: Read, W: Write>(
 ) -> ExitCode {
     let held = &mut [0; 65536];
     let out = &mut [0; 65536];
-    let used = &mut [0; ROWS];
-    let euis = &mut [0; ROWS];
-    let shorts = &mut [0; ROWS];
-    let lasts = &mut [0; ROWS];
-    let heards = &mut [0; ROWS];
-    match enrolments::enrol_all(
-        enrolments, output, held, out, used, euis, shorts, lasts, heards,
-    ) {
+    let used = &mut [0u8; ROWS][..];
+    let euis = &mut [0u64; ROWS][..];
+    let shorts = &mut [0u16; ROWS][..];
+    let lasts = &mut [0u32; ROWS][..];
+    let heards = &mut [0u64; ROWS][..];
+    let mut enrolling = Table {
+        used: &mut *used,
+        euis: &mut *euis,
+        shorts: &mut *shorts,
+        lasts: &mut *lasts,
+        heards: &mut *heards,
+    };
+    match enrolments::enrol_all(enrolments, output, held, out, &mut enrolling) {
         Ok(true) => {}
         Ok(false) => return ExitCode::SUCCESS,
         Err(e) => return failed(rt, "enrolments", e),
     }
-    match records::play_all(
-        told, trace, output, held, out, used, euis, shorts, lasts, heards,
-    ) {
+    let mut table = Table {
+        used: &*used,
+        euis: &*euis,
+        shorts: &*shorts,
+        lasts,
+        heards,
+    };
+    match records::play_all(told, trace, output, held, out, &mut table) {
         Ok(()) => ExitCode::SUCCESS,
         Err(e) => failed(rt, "trace", e),
     }

@@ -1,6 +1,7 @@
 // The trace, one turn after another: its start, then record by record.
 use hand::{Failed, Hand};
 use lines::Took;
+use meters::Credits;
 use std::io::{Read, Stderr, Write};
 
 // The sessions of 64 stations.
@@ -22,11 +23,7 @@ pub fn play_all<R: Read, W: Write>(
     output: &mut W,
     held: &mut [u8],
     out: &mut [u8],
-    used: &[u8],
-    euis: &[u64],
-    shorts: &[u16],
-    lasts: &mut [u32],
-    heards: &mut [u64],
+    table: &mut Credits,
 ) -> Result<(), Failed> {
     let sessions = &mut [0; SESSIONS];
     let s = &mut Playing {
@@ -39,9 +36,7 @@ pub fn play_all<R: Read, W: Write>(
         if s.hand.ended {
             break;
         }
-        play(
-            trace, output, held, out, sessions, used, euis, shorts, lasts, heards, s,
-        )?;
+        play(trace, output, held, out, sessions, table, s)?;
         crate::progress::tell(told, turn, s.records);
     }
     s.hand.flushed(output, out)
@@ -54,16 +49,11 @@ fn play<R: Read, W: Write>(
     held: &mut [u8],
     out: &mut [u8],
     sessions: &mut [u8; SESSIONS],
-    used: &[u8],
-    euis: &[u64],
-    shorts: &[u16],
-    lasts: &mut [u32],
-    heards: &mut [u64],
+    table: &mut Credits,
     s: &mut Playing,
 ) -> Result<(), Failed> {
-    let took = turn(
-        held, out, s.started, &mut s.sum, sessions, used, euis, shorts, lasts, heards, s.hand,
-    );
+    let h = s.hand;
+    let took = turn(held, out, s.started, &mut s.sum, sessions, table, h);
     s.records = count(s.records, s.started, took.used);
     s.started = s.started | (took.used != 0);
     s.hand.turned(trace, output, held, out, took)
@@ -76,11 +66,7 @@ fn turn(
     started: bool,
     sum: &mut u64,
     sessions: &mut [u8; SESSIONS],
-    used: &[u8],
-    euis: &[u64],
-    shorts: &[u16],
-    lasts: &mut [u32],
-    heards: &mut [u64],
+    table: &mut Credits,
     h: Hand,
 ) -> Took {
     let filled = h.filled.min(out.len());
@@ -88,18 +74,7 @@ fn turn(
     if !started {
         return day::start(bytes, h.last, &mut out[filled..]);
     }
-    day::turn(
-        bytes,
-        h.last,
-        sum,
-        sessions,
-        used,
-        euis,
-        shorts,
-        lasts,
-        heards,
-        &mut out[filled..],
-    )
+    day::turn(bytes, h.last, sum, sessions, table, &mut out[filled..])
 }
 
 // Records so far; there is no trace of 2^64 of them.

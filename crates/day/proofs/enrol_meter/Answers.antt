@@ -3,14 +3,14 @@ use Rattle.day.proofs.Enrolling.{enrolling_meter}
 use Rattle.std.proofs.Common.{rules}
 use Rattle.day.proofs.enrol_meter.Goals as goal
 
-pub returns-in-At-clause-shows : goal.returns-in-At-clause-shows
-returns-in-At-clause-shows c = search (enrolling_meter, rules)
+pub returns-in-Ok-clause-shows : goal.returns-in-Ok-clause-shows
+returns-in-Ok-clause-shows c = search (enrolling_meter, rules)
 
-pub returns-in-At-clause-table : goal.returns-in-At-clause-table
-returns-in-At-clause-table c = search (enrolling_meter, rules)
+pub returns-in-Ok-clause-table : goal.returns-in-Ok-clause-table
+returns-in-Ok-clause-table c = search (enrolling_meter, rules)
 
-pub returns-in-Refused-clause-shows : goal.returns-in-Refused-clause-shows
-returns-in-Refused-clause-shows c = search (enrolling_meter, rules)
+pub returns-in-Err-clause-shows : goal.returns-in-Err-clause-shows
+returns-in-Err-clause-shows c = search (enrolling_meter, rules)
 
-pub returns-in-Refused-clause-table : goal.returns-in-Refused-clause-table
-returns-in-Refused-clause-table c = search (enrolling_meter, rules)
+pub returns-in-Err-clause-table : goal.returns-in-Err-clause-table
+returns-in-Err-clause-table c = search (enrolling_meter, rules)

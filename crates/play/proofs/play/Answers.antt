@@ -1,13 +1,14 @@
-use borrow.Author.Rules.{rules}
-use Rattle.play.proofs.Playing.{playing}
-use Rattle.std.proofs.Common.{rules}
+use mathlib.Core.Path.{refl}
+use Rattle.play.proofs.Playing.{unread_plays, refused_plays, accepted_plays}
 use Rattle.play.proofs.play.Goals as goal
 
-pub returns-then-told-ne0 : goal.returns-then-told-ne0
-returns-then-told-ne0 c = search (playing, rules)
+pub returns-in_default-clause-plays : goal.returns-in_default-clause-plays
+returns-in_default-clause-plays c = unread_plays _ _ _ _ _ c.read.result c.read.ensures c.in_default.field-0 c.in_default.is _ refl
 
-pub returns-then-not-accepted : goal.returns-then-not-accepted
-returns-then-not-accepted c = search (playing, rules)
+pub returns-then-not-accepts-clause-plays : goal.returns-then-not-accepts-clause-plays
+returns-then-not-accepts-clause-plays c =
+    refused_plays _ _ _ _ _ c.read.result c.read.ensures c.in-Ok.counted c.in-Ok.is c.accepts.result _ c.accepts.ensures.session c.accepts.ensures.accepted c.if-not-accepts.true _ refl
 
-pub returns : goal.returns
-returns c = search (playing, rules)
+pub returns-clause-plays : goal.returns-clause-plays
+returns-clause-plays c =
+    accepted_plays _ _ _ _ _ c.read.result c.read.ensures c.in-Ok.counted c.in-Ok.is c.accepts.result _ c.accepts.ensures.session c.accepts.ensures.accepted c.if-not-accepts.false _ _ c.to_table.ensures.table

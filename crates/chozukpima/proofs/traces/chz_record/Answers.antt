@@ -8,4 +8,4 @@ pub returns-in-Ok : goal.returns-in-Ok
 returns-in-Ok c = record_taken c.args.time.now c.args.gap c.args.station c.args.frame.now c.args.room.now c.write.new.room c.write.result c.write.ensures c.in-Ok.length c.in-Ok.is c.pack.result c.pack.ensures
 
 pub returns-in-Err : goal.returns-in-Err
-returns-in-Err c = record_refused_lem c.args.time.now c.args.gap c.args.station c.args.frame.now c.args.room.now c.write.new.room c.write.result c.write.ensures c.in-Err.r c.in-Err.is c.number.result c.refuse.result c.number.ensures.is c.refuse.ensures
+returns-in-Err c = record_refused_lem c.args.time.now c.args.gap c.args.station c.args.frame.now c.args.room.now c.write.new.room c.write.result c.write.ensures c.in-Err.r c.in-Err.is c.refuse.result c.refuse.ensures
