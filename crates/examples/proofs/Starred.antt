@@ -24,7 +24,7 @@ use Rattle.examples.specs.{Example.AllHold, Starred.starred}
 
 -- with enough bytes lent, the answer goes by the payload alone
 computed : (s d : List ℕ) (a : Answered)
-    → either (is_size (length s)) (λ _. answer_by s d (element_of s 8 Role.outer 0 0)) (λ _. refuses 3 0 d) ≡ a
+    → either (is_size (length s)) (λ _. answer_by s d (element_of s 8 Role.outer 0 0)) (λ _. refuses Size d) ≡ a
     → lent_size ≤ length d → Meant s d a
 unfolding answer_at
 computed s d a e h =
