@@ -24,6 +24,7 @@ use Rattle.message.specs.Record.{string_of}
 use Rattle.message.specs.Reading.{outer_of, again, said_from, said_of, cells_of, gravest, look_in, crossed, command_said}
 use Rattle.record.specs.declared.Message.{Message}
 use Rattle.record.specs.Record.{bytes_in, body_in, body_of, message_of, data_of, sixteen_in}
+use Rattle.refusal.specs.declared.Refusal.TheVariants.{UnknownCommand}
 use Rattle.record.specs.Reading.{Reading, refusal_of, reading_unless, reading_as, reading_named, reading_of}
 use Rattle.record.proofs.Typed.{Wide, TypedBody, Typed}
 use Rattle.record.proofs.Commands.{Command, command, Past.past}

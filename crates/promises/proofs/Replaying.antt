@@ -70,7 +70,7 @@ known : (s d : List ℕ) → IsBytes s → lent_size ≤ length d → (r : Answe
 known s d f h r m = go (walk_of s) refl
   where
     go : (x : Walked) → walk_of s ≡ x → Known r
-    go (Err b) w x e = absurd (cc (sym (ap told (m.broken h b w)) ∙ e))
+    go (Err b) w = λ x e. absurd (cc (sym (ap told (m.broken h b w)) ∙ e))
     go (Ok c) w =
         let t = whole_tree s c w in
         subst Known (sym (m.whole h t.0 t.1))
