@@ -4,7 +4,7 @@ use mathlib.Core.Bool.{Bool, false}
 use Prim.Native.Nat.{ℕ, ◌+◌, ◌-◌}
 use lib.{ListN.length, ListN.take, ListN.drop}
 use Rattle.forms.specs.Code.Put.{put, put_parts}
-use Rattle.std.specs.Prelude.{Result, Ok, Err}
+use Rattle.std.specs.Prelude.{Option, Result, Ok, Err}
 use Rattle.refusal.specs.declared.Refusal.{Refusal}
 use Rattle.groups.specs.declared.Number.{Number}
 use Rattle.trace.specs.declared.Entry.{Entry}

@@ -3,6 +3,7 @@ use mathlib.Core.{Path.◌≡◌, Path.refl, Path.subst, List.List}
 use Prim.Native.Nat.{ℕ, ◌≤◌}
 use lib.{Ieee.of_bits, Ieee.of_int, Ieee.to_bits, Ieee.fits as holds, ListN.length}
 use borrow.Author.Tests.{le-ltb}
+use Rattle.refusal.specs.declared.Refusal.TheVariants as refusal
 use Rattle.octets.specs.{Choice.either, Size.is_size, Number.big_at, Bytes.big_bytes, Bytes.little_bytes, Bytes.put_at}
 use Rattle.frame.specs.Frame.{identifier}
 use Rattle.element.specs.{Lead.lead_bytes, Lead.row_in, Lead.head_of, Code.At.leaf_at, Tree.bytes_of, Tree.pair_count}
@@ -24,7 +25,7 @@ use Rattle.examples.specs.{Example.AllHold, Starred.starred}
 
 -- with enough bytes lent, the answer goes by the payload alone
 computed : (s d : List ℕ) (a : Answered)
-    → either (is_size (length s)) (λ _. answer_by s d (element_of s 8 Role.outer 0 0)) (λ _. refuses 3 0 d) ≡ a
+    → either (is_size (length s)) (λ _. answer_by s d (element_of s 8 Role.outer 0 0)) (λ _. refuses refusal.Size d) ≡ a
     → lent_size ≤ length d → Meant s d a
 unfolding answer_at
 computed s d a e h =

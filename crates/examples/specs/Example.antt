@@ -8,7 +8,7 @@ use Rattle.element.specs.Code.At.{leaf_at}
 use Rattle.field.specs.{Kind.Kind, Kind.Value, Judge.judge}
 use Rattle.record.specs.declared.Message.{Message}
 use Rattle.record.specs.{Reading.Reading, Written.payload_for, Written.frame_for}
-use Rattle.record.specs.Meant.{answer_of, refuses, lent_size, Meant}
+use Rattle.record.specs.Meant.{answer_of, breaks, lent_size, Meant}
 use Rattle.writer.specs.Write.{written}
 
 pub data Example : Type 0 where
@@ -16,8 +16,8 @@ pub data Example : Type 0 where
   size : List ℕ → ℕ → Example
   -- a payload of so many elements is read as a record
   read : List ℕ → ℕ → Message → Example
-  -- a payload is refused with a number and a place
-  refused : List ℕ → ℕ → ℕ → Example
+  -- a payload is refused, with a place
+  refused : List ℕ → Refusal → ℕ → Example
   -- an element is worth that real, which is kept as those eight bytes
   real : List ℕ → Float → List ℕ → Example
   -- an element is worth no real: 15
@@ -30,7 +30,7 @@ pub data Example : Type 0 where
 abbrev pub Holds : Example → Type 0
 Holds (size s n) = length s ≡ n
 Holds (read s n m) = (d : List ℕ) → lent_size ≤ length d → Meant s d (answer_of n d (Reading.reads m []))
-Holds (refused s n p) = (d : List ℕ) → lent_size ≤ length d → Meant s d (refuses n p d)
+Holds (refused s r p) = (d : List ℕ) → lent_size ≤ length d → Meant s d (breaks (record { refusal = r; place = p }) d)
 Holds (real s x kept) = (judge Kind.reals (leaf_at s 0) ≡ some (Value.figure x)) × (big_bytes 8 (to_bits binary64 x) ≡ kept)
 Holds (no_real s) = judge Kind.reals (leaf_at s 0) ≡ none
 Holds (takes m n framed) = (length (payload_for m []) ≡ n) × (length (frame_for m []) ≡ framed)

@@ -5,7 +5,7 @@ use Rattle.names.specs.Names.{bytes}
 use Rattle.field.specs.Cell.{zero64, origin}
 use Rattle.message.specs.declared.Maybe.{Maybe}
 use Rattle.record.specs.declared.{Body.Body, Message.Message}
-use Rattle.refusal.specs.declared.Refusal.TheVariants.{RoomTooShort}
+use Rattle.refusal.specs.declared.Refusal.TheVariants.{Cut, NeverUsed, TooDeep, OuterNotMap, LeftOver, NoCommand, Invalid, RoomTooShort}
 use Rattle.examples.specs.Example.{Example}
 use Rattle.examples.specs.Example.Example.{size, read, refused, real, no_real, takes, writing}
 
@@ -76,15 +76,15 @@ starred =
     -- P with ID as D3 00 00 00 00 00 00 00 01: same record
     read (P-with-ID (0xD3 ∷ 0 ∷ 0 ∷ 0 ∷ 0 ∷ 0 ∷ 0 ∷ 0 ∷ 1 ∷ [])) 5 ping_1 ∷
     -- P with one byte added: 10, at the byte left over
-    refused (P ++ (0x00 ∷ [])) 10 20 ∷
+    refused (P ++ (0x00 ∷ [])) LeftOver 20 ∷
     -- without its last: 4, where the ID should start
-    refused (take 19 P) 4 19 ∷
+    refused (take 19 P) Cut 19 ∷
     -- 80: 11
-    refused (0x80 ∷ []) 11 0 ∷
+    refused (0x80 ∷ []) NoCommand 0 ∷
     -- 90: 9
-    refused (0x90 ∷ []) 9 0 ∷
+    refused (0x90 ∷ []) OuterNotMap 0 ∷
     -- C1: 5
-    refused (0xC1 ∷ []) 5 0 ∷
+    refused (0xC1 ∷ []) NeverUsed 0 ∷
     -- CA C2 C2 00 00 is −97, kept as C0 58 40 00 00 00 00 00
     real (0xCA ∷ 0xC2 ∷ 0xC2 ∷ 0 ∷ 0 ∷ []) (fin true 97 (pos 0)) (0xC0 ∷ 0x58 ∷ 0x40 ∷ 0 ∷ 0 ∷ 0 ∷ 0 ∷ 0 ∷ []) ∷
     -- document 02, Q-1: D0 9F, the integer −97, is the same real
@@ -100,11 +100,11 @@ starred =
     real (0xD3 ∷ 0 ∷ 0 ∷ 0 ∷ 0 ∷ 0 ∷ 0 ∷ 0 ∷ 0 ∷ []) (fin false 0 (pos 0)) (0 ∷ 0 ∷ 0 ∷ 0 ∷ 0 ∷ 0 ∷ 0 ∷ 0 ∷ []) ∷
     -- in a whole message: S with −97, and with one too far: 15
     read (S-with (0xD0 ∷ 0x9F ∷ [])) 13 (status_rsp_1 (fin true 97 (pos 0))) ∷
-    refused (S-with (0xCF ∷ 0 ∷ 0x20 ∷ 0 ∷ 0 ∷ 0 ∷ 0 ∷ 0 ∷ 1 ∷ [])) 15 0 ∷
+    refused (S-with (0xCF ∷ 0 ∷ 0x20 ∷ 0 ∷ 0 ∷ 0 ∷ 0 ∷ 0 ∷ 1 ∷ [])) Invalid 0 ∷
     -- an extra value of seven nested arrays, the innermost empty, passes: P's 5 elements, the key and the arrays
     read (P-with (extra (nested_in 6))) 13 ping_1 ∷
     -- eight: 6, where the innermost starts
-    refused (P-with (extra (nested_in 7))) 6 29 ∷
+    refused (P-with (extra (nested_in 7))) TooDeep 29 ∷
     -- pingRsp 1 takes 23 bytes, 35 framed
     takes ping_rsp_1 23 35 ∷
     -- 34 bytes of room: 20

@@ -51,5 +51,3 @@ module _ (payload d lent : List ℕ) (c : Columns) (station : ℕ) (t : Result C
       where
         by_arrival : played e g r ≡ after_arrival c station n.message.body (arrival replaying d n.message lent)
         by_arrival = simp (told ∙ f, ← s) (q e)
-
-pub ruleset playing = (unread_plays, refused_plays, accepted_plays)

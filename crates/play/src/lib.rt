@@ -22,7 +22,6 @@ pub struct Credited {
 }
 
 // A payload that arrived from a station.
-#[tactic(auto, using(crate::proofs::Playing::playing))]
 pub fn play(
     session: &mut [u8],
     table: &mut Credits,

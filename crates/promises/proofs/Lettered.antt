@@ -25,7 +25,8 @@ use Rattle.message.specs.Record.{string_of}
 use Rattle.message.specs.Reading.{outer_of, again, said_from, said_of, cells_of, gravest, look_in, crossed, command_said}
 use Rattle.record.specs.declared.Message.{Message}
 use Rattle.record.specs.Record.{bytes_in, body_in, body_of, message_of, data_of, sixteen_in}
-use Rattle.record.specs.Reading.{Reading, reading_unless, reading_as, reading_named, reading_of}
+use Rattle.refusal.specs.declared.Refusal.TheVariants.{UnknownCommand}
+use Rattle.record.specs.Reading.{Reading, refusal_of, reading_unless, reading_as, reading_named, reading_of}
 use Rattle.record.proofs.Typed.{Wide, TypedBody, Typed}
 use Rattle.record.proofs.Commands.{Command, command, Past.past}
 use Rattle.record.proofs.Commands.Command.{con, con_rsp, status_rsp, det, det_rsp, att_prp, det_prp, ul_data, dl_data_que, bare}
@@ -251,17 +252,17 @@ module _ (look : List ℕ → Cell) (clean : (u : List ℕ) → Clean (look u)) 
   unfolding message_of
   message_typed c = body_typed (command c)
 
--- a reading: its refusal is a byte, its record has the widths of its type
+-- a reading: its record has the widths of its type
 abbrev pub Proper : Reading → Type 0
-Proper (Reading.refused n) = n < 256
+Proper (Reading.refused r) = Unit {0}
 Proper (Reading.reads m d) = Typed m
 
 unless_proper : (g : ℕ) (m : Message) (d : List ℕ) → Typed m → Proper (reading_unless g m d)
 unless_proper g m d t = go (eqb g 0)
   where
-    go : (b : Bool) → Proper (either b (λ _. Reading.reads m d) (λ _. Reading.refused (16 - g / 64)))
+    go : (b : Bool) → Proper (either b (λ _. Reading.reads m d) (λ _. Reading.refused (refusal_of (g / 64))))
     go true = t
-    go false = omega arith
+    go false = tt
 
 module _ (said : List ℕ → Said) (p : (u : List ℕ) → PlainSaid (said u)) where
   as_proper : (c : ℕ) → Proper (reading_as c said)
@@ -272,12 +273,12 @@ module _ (said : List ℕ → Said) (p : (u : List ℕ) → PlainSaid (said u)) 
       unless_proper (max (gravest 0 0 l (cells_of l said)) (crossed l look)) (message_of c look) (data_of c look) (message_typed look (look_clean said p l Cell.missing no_bytes) c)
 
   named_proper : (o : Option (List ℕ)) → Proper (reading_named o said)
-  named_proper none = omega arith
+  named_proper none = tt
   named_proper (some n) = go (ltb (command_of n) 24)
     where
-      go : (b : Bool) → Proper (either b (λ _. reading_as (command_of n) said) (λ _. Reading.refused 12))
+      go : (b : Bool) → Proper (either b (λ _. reading_as (command_of n) said) (λ _. Reading.refused UnknownCommand))
       go true = as_proper (command_of n)
-      go false = omega arith
+      go false = tt
 
 pub reading_proper : (t : Tree) → IsBytes (bytes_of t) → Proper (reading_of (outer_of (meaning_of t)))
 unfolding reading_of

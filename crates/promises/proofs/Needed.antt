@@ -3,6 +3,7 @@ use mathlib.Core.{Path.◌≡◌, Path.refl, Bool.Bool, Bool.true, Bool.false, L
 use Prim.Native.Nat.{ℕ}
 use lib.{IntN.pos, IntN.negsuc}
 use lib.Ieee.{Float, fin, of_bits, of_int, fits}
+use Rattle.refusal.specs.declared.Refusal.{Refusal, TheVariants.KeyTwice, TheVariants.FieldMissing, TheVariants.Invalid}
 use Rattle.octets.specs.Pieces.{counter_bytes, lengths_of, strung, downlink_bytes}
 use Rattle.octets.specs.Number.{big_at}
 use Rattle.element.specs.{Lead.lead_bytes, Lead.row_in, Tree.Tree, Tree.Tree.leaf, Tree.Tree.array, Tree.Tree.map, Tree.Trees.none, Tree.Trees.some, Tree.Pairs, Tree.Pairs.end, Tree.Pairs.pair, Meaning.meaning_of, Meaning.meaning_of_pairs}
@@ -18,13 +19,13 @@ use Rattle.promises.specs.Steady.{Rearranged, Default, Changed}
 use Rattle.promises.proofs.Moves.{before, replaced}
 use Rattle.promises.proofs.Instances.{text, lone, pairs, ping, ping_under, whole_rssi, uplink_telling, uplink_bare, uplink, uplink_heard, uplink_with, uplink_2, user_data}
 
--- pairs are refused with that number, or read as this record with these bytes beside it
+-- pairs are refused, or read as this record with these bytes beside it
 pub data Case : Type 0 where
-  refused : Pairs → ℕ → Case
+  refused : Pairs → Refusal → Case
   read : Pairs → Message → List ℕ → Case
 
 abbrev pub Holds : Case → Type 0
-Holds (refused ps n) = reading_of (meaning_of_pairs ps) ≡ Reading.refused n
+Holds (refused ps r) = reading_of (meaning_of_pairs ps) ≡ Reading.refused r
 Holds (read ps m l) = reading_of (meaning_of_pairs ps) ≡ Reading.reads m l
 
 abbrev pub AllHold : List Case → Type 0
@@ -80,40 +81,40 @@ one_entry = downlink_bytes [] ((9 ∷ []) ∷ [])
 abbrev pub cases : List Case
 cases =
     -- a key that the command has is put in: it stands twice
-    refused (pair (text "opId") (lone 1) ping) 13 ∷
+    refused (pair (text "opId") (lone 1) ping) KeyTwice ∷
     -- a key is written with another letter
-    refused (pairs ((text "command", text "ping") ∷ (text "opID", lone 1) ∷ [])) 14 ∷
+    refused (pairs ((text "command", text "ping") ∷ (text "opID", lone 1) ∷ [])) FieldMissing ∷
     -- an ID is written as another number
     read (pairs ((text "command", text "ping") ∷ (text "opId", lone 2) ∷ [])) (ping_under 2) [] ∷
     -- an ID of 0 is left out, and not a format
     read (pairs ((text "opId", lone 0) ∷ (text "command", text "ping") ∷ [])) (ping_under 0) [] ∷
-    refused (pairs ((text "command", text "ping") ∷ [])) 14 ∷
+    refused (pairs ((text "command", text "ping") ∷ [])) FieldMissing ∷
     -- a format of 1 is left out
     read (pair (text "format") (lone 1) uplink_bare) (uplink_with 1) user_data ∷
     read uplink_bare (uplink_with 0) user_data ∷
     -- a format of 0 is left out where another stands: it stood twice
-    refused (pair (text "format") (lone 0) uplink) 13 ∷
+    refused (pair (text "format") (lone 0) uplink) KeyTwice ∷
     -- minus zero is not the whole number 0
     read (heard 0x00 []) (uplink_heard (fin false 0 (pos 0)) 0) user_data ∷
     read (heard 0xCB (0x80 ∷ 0 ∷ 0 ∷ 0 ∷ 0 ∷ 0 ∷ 0 ∷ 0 ∷ [])) (uplink_heard (fin true 0 (pos 0)) 0) user_data ∷
     -- 2^53 + 1 stands for no float, also not for the one next to it
-    refused (heard 0xCF (0 ∷ 0x20 ∷ 0 ∷ 0 ∷ 0 ∷ 0 ∷ 0 ∷ 1 ∷ [])) 15 ∷
+    refused (heard 0xCF (0 ∷ 0x20 ∷ 0 ∷ 0 ∷ 0 ∷ 0 ∷ 0 ∷ 1 ∷ [])) Invalid ∷
     read (heard 0xCB (0x43 ∷ 0x40 ∷ 0 ∷ 0 ∷ 0 ∷ 0 ∷ 0 ∷ 0 ∷ [])) (uplink_heard (fin false 1 (pos 53)) 0) user_data ∷
     -- nor does 2^53 + 2, which a float 64 has
-    refused (heard 0xCF (0 ∷ 0x20 ∷ 0 ∷ 0 ∷ 0 ∷ 0 ∷ 0 ∷ 2 ∷ [])) 15 ∷
+    refused (heard 0xCF (0 ∷ 0x20 ∷ 0 ∷ 0 ∷ 0 ∷ 0 ∷ 0 ∷ 2 ∷ [])) Invalid ∷
     read (heard 0xCB (0x43 ∷ 0x40 ∷ 0 ∷ 0 ∷ 0 ∷ 0 ∷ 0 ∷ 1 ∷ [])) (uplink_heard (fin false 0x10_0000_0000_0001 (pos 1)) 0) user_data ∷
     -- −96 is another reading than −97
     read (heard 0xD0 (0xA0 ∷ [])) (uplink_heard (fin true 3 (pos 5)) 0) user_data ∷
     read (uplink_telling (lone 5) whole_rssi) (uplink_with 0) user_data ∷
     -- a counter is no real: 5 as a float is refused
-    refused (uplink_telling (leaf 0xCA [] (0x40 ∷ 0xA0 ∷ 0 ∷ 0 ∷ [])) whole_rssi) 15 ∷
+    refused (uplink_telling (leaf 0xCA [] (0x40 ∷ 0xA0 ∷ 0 ∷ 0 ∷ [])) whole_rssi) Invalid ∷
     -- a prio of 1 is left out, and minus zero: these are not plus zero
     read (with_prio (lone 1)) (downlink_of (fin false 1 (pos 0))) one_entry ∷
     read (with_prio (leaf 0xCB [] (0x80 ∷ 0 ∷ 0 ∷ 0 ∷ 0 ∷ 0 ∷ 0 ∷ 0 ∷ []))) (downlink_of (fin true 0 (pos 0))) one_entry ∷
     read (queue end) (downlink_of (fin false 0 (pos 0))) one_entry ∷
     -- a prio of 2^24 + 1 is no single, as a whole number and as a float 64
-    refused (with_prio (leaf 0xCE [] (1 ∷ 0 ∷ 0 ∷ 1 ∷ []))) 15 ∷
-    refused (with_prio (leaf 0xCB [] (0x41 ∷ 0x70 ∷ 0 ∷ 0 ∷ 0x10 ∷ 0 ∷ 0 ∷ 0 ∷ []))) 15 ∷
+    refused (with_prio (leaf 0xCE [] (1 ∷ 0 ∷ 0 ∷ 1 ∷ []))) Invalid ∷
+    refused (with_prio (leaf 0xCB [] (0x41 ∷ 0x70 ∷ 0 ∷ 0 ∷ 0x10 ∷ 0 ∷ 0 ∷ 0 ∷ []))) Invalid ∷
     -- under a strange key nothing is asked: 2^53 + 1 and a text are read alike
     read (made_by (leaf 0xCF [] (0 ∷ 0x20 ∷ 0 ∷ 0 ∷ 0 ∷ 0 ∷ 0 ∷ 1 ∷ []))) uplink_2 user_data ∷
     read (made_by (text "none")) uplink_2 user_data ∷

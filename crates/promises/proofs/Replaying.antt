@@ -8,18 +8,19 @@ use lib.{Dec.T, Dec.eqb, Dec.lit<, ListN.length, ListN.length-replicate}
 use borrow.Author.Tests.{eq-eqb, ne_eqb, eqb-true, eqb-false}
 use Rattle.octets.specs.{Choice.either, Bytes.IsBytes}
 use Rattle.octets.proofs.Ranges.{is_false}
-use Rattle.std.specs.Prelude.{Ok, Err}
-use Rattle.element.specs.{Form.Walked, Form.walk_of, Form.walk_refusal, Tree.count_of, Meaning.meaning_of}
+use Rattle.refusal.specs.{declared.Broken.Broken, Number.number_of}
+use Rattle.refusal.proofs.Numbers.{number_some, number_byte}
+use Rattle.element.specs.{Form.Walked, Form.walk_of, Tree.count_of, Meaning.meaning_of}
 use Rattle.element.proofs.Whole.{whole_tree}
 use Rattle.names.specs.Names.{bytes, commands, command_of, place_in, downlink}
 use Rattle.message.specs.Reading.{outer_of}
-use Rattle.record.specs.declared.{Body.Body, Message.Message, Told.Told, UlData.UlData}
+use Rattle.record.specs.declared.{Body.Body, Message.Message, Counted.Counted, UlData.UlData}
 use Rattle.record.specs.{Record.command_in, Says.is_bare, Says.is_named, Fits.fits, Reading.Reading, Reading.reading_of, Code.Places.answer_at}
-use Rattle.record.specs.Meant.{Answered, answer_of, lent_size, Meant}
-use Rattle.record.proofs.{Typed.Typed, Answered.answer_meant, Answered.broken_told, Answers.one_answer, Answers.read_writes}
+use Rattle.record.specs.Meant.{Answered, refusal_told, answer_of, lent_size, Meant}
+use Rattle.record.proofs.{Typed.Typed, Answered.answer_meant, Answers.one_answer, Answers.read_writes}
 use Rattle.session.specs.{Arrive.arrives}
 use Rattle.steps.specs.Called.{step_refusal, Called, arrive_on}
-use Rattle.std.specs.Prelude.{Option, Ok, Err}
+use Rattle.std.specs.Prelude.{Option, Result, Ok, Err}
 use Rattle.meters.specs.declared.Kind.{Kind, TheVariants.New, TheVariants.Copy}
 use Rattle.meters.specs.Answers.{Uplinked, credit_refusal_of}
 use Rattle.meters.specs.Columns.{Columns, Done, uplink_on}
@@ -31,23 +32,27 @@ use Rattle.chozukpima.specs.{Messages.filled, Messages.Filled, Messages.told_int
 use Rattle.chozukpima.specs.Sessions.{Returned, returned, step_answer, arrive_returns}
 use Rattle.chozukpima.proofs.Kept.{refusal_back}
 use Rattle.play.specs.declared.Credited.{Credited}
-use Rattle.play.specs.Play.{Lends, Played, played, no_reading, new_reading, before_arrival, arrival, reading_of as creditedAs, reading_as, credited, to_table, after_arrival, play_of, scratch, Plays}
+use Rattle.play.specs.Play.{Lends, Played, played, no_reading, new_reading, before_arrival, arrival, reading_of as creditedAs, reading_as, credited, to_table, after_arrival, play_told, play_of, scratch, Plays}
 use Rattle.play.proofs.Settled.{plays_once}
 use Rattle.promises.specs.Played.{before_call, arrive_call, uplink_call, Calls}
-use Rattle.promises.proofs.{Lettered.Proper, Lettered.reading_proper, Roomy.fitting_held, Refusing.walk_small, Refusing.arrival_small, Refusing.uplink_told}
+use Rattle.promises.proofs.{Lettered.Proper, Lettered.reading_proper, Roomy.fitting_held, Refusing.arrival_small, Refusing.uplink_told}
 
--- what is told of a payload does not turn on the bytes that are lent, its refusal is a byte, and its record has the widths of its type
-record Known (r : Answered) : Type 0 where
-  small : r.told.refusal < 256
-  typed : Typed r.told.message
+-- what is told of a payload does not turn on the bytes that are lent, and its record has the widths of its type
+abbrev Known : Answered → Type 0
+Known r = (x : Counted) → r.told ≡ Ok x → Typed x.message
 
 told_of : (c : ℕ) (d e : List ℕ) (x : Reading) → (answer_of c d x).told ≡ (answer_of c e x).told
 told_of c d e (Reading.refused n) = refl
 told_of c d e (Reading.reads m f) = refl
 
 known_of : (c : ℕ) (d : List ℕ) (x : Reading) → Proper x → Known (answer_of c d x)
-known_of c d (Reading.refused n) p = record { small = p; typed = tt }
-known_of c d (Reading.reads m f) p = record { small = lit< tt; typed = p }
+known_of c d (Reading.refused n) p x e = absurd (cc e)
+known_of c d (Reading.reads m f) p x e =
+    let same : record { count = c; message = m } ≡ x = cc e in
+    subst (λ (y : Counted). Typed y.message) same p
+
+abbrev Told : Type 0
+Told = Result Counted Broken
 
 abbrev told : Answered → Told
 told a = a.told
@@ -56,7 +61,7 @@ told_same : (s d e : List ℕ) → lent_size ≤ length d → lent_size ≤ leng
 told_same s d e h l r q m n = go (walk_of s) refl
   where
     go : (x : Walked) → walk_of s ≡ x → r.told ≡ q.told
-    go (Err b) w = ap told (broken_told s d r m h b w) ∙ sym (ap told (broken_told s e q n l b w))
+    go (Err b) w = ap told (m.broken h b w) ∙ sym (ap told (n.broken l b w))
     go (Ok c) w =
         let t = whole_tree s c w in
         ap told (m.whole h t.0 t.1) ∙ told_of (count_of t.0) d e (reading_of (outer_of (meaning_of t.0))) ∙ sym (ap told (n.whole l t.0 t.1))
@@ -65,9 +70,7 @@ known : (s d : List ℕ) → IsBytes s → lent_size ≤ length d → (r : Answe
 known s d f h r m = go (walk_of s) refl
   where
     go : (x : Walked) → walk_of s ≡ x → Known r
-    go (Err b) w =
-        subst Known (sym (broken_told s d r m h b w))
-        (record { small = subst (λ (x : Walked). walk_refusal x < 256) w (walk_small s); typed = tt })
+    go (Err b) w = λ x e. absurd (cc (sym (ap told (m.broken h b w)) ∙ e))
     go (Ok c) w =
         let t = whole_tree s c w in
         subst Known (sym (m.whole h t.0 t.1))
@@ -78,18 +81,23 @@ happened_back : (n w v : ℕ) → n < 256 → w < 256 → answer_happened (packe
 unfolding packed
 happened_back n w v h l = omega arith
 
-told_refusal : (t : Told) (m : List ℕ) → t.refusal < 256 → answer_refusal (told_into t m).answer ≡ t.refusal
+told_refusal : (t : Told) (m : List ℕ) → answer_refusal (told_into t m).answer ≡ refusal_told t
 unfolding told_into
-told_refusal t m h = go (eqb t.refusal 0) refl
-  where
-    go : (b : Bool) → eqb t.refusal 0 ≡ b
-        → answer_refusal (either b (λ _. filled (packed 0 0 t.count) (message_image t.message)) (λ _. filled (packed t.refusal 0 t.place) m)).answer ≡ t.refusal
-    go true e = refusal_back 0 0 t.count (lit< tt) ∙ sym (eqb-true t.refusal 0 e)
-    go false e = refusal_back t.refusal 0 t.place h
+told_refusal (Ok x) m = refusal_back 0 0 x.count (lit< tt)
+told_refusal (Err b) m = refusal_back (number_of b.refusal) 0 b.place (number_byte b.refusal)
 
-told_whole : (t : Told) (m : List ℕ) → t.refusal ≡ 0 → told_into t m ≡ filled (packed 0 0 t.count) (message_image t.message)
+-- no refusal's number is 0
+told_ok : (t : Told) → refusal_told t ≡ 0 → (x : Counted) × (t ≡ Ok x)
+told_ok (Ok x) z = (x, refl)
+told_ok (Err b) z = let n = number_some b.refusal in absurd (omega arith)
+
+told_err : (t : Told) → (refusal_told t ≡ 0 → ⊥) → (b : Broken) × (t ≡ Err b)
+told_err (Ok x) n = absurd (n refl)
+told_err (Err b) n = (b, refl)
+
+told_whole : (t : Told) (m : List ℕ) (x : Counted) → t ≡ Ok x → told_into t m ≡ filled (packed 0 0 x.count) (message_image x.message)
 unfolding told_into
-told_whole t m z = simp (eq-eqb t.refusal 0 z) refl
+told_whole t m x z = ap (λ (u : Told). told_into u m) z
 
 -- an uplink's answer says that a reading is new exactly if it is
 module _ (eui counter : ℕ) where
@@ -143,16 +151,16 @@ module _ (c : Columns) (k : ℕ) where
     abbrev credit : Done Uplinked
     credit = uplink_on c x.packet.ep_eui x.packet.packet_cnt k
 
-    abbrev Counted : Option Credited → Type 0
-    Counted r = played d (uplink_call c x k).columns r ≡ to_table d c k (Body.UlData x)
+    abbrev Counts : Option Credited → Type 0
+    Counts r = played d (uplink_call c x k).columns r ≡ to_table d c k (Body.UlData x)
 
-    counts_new : answer_happened (uplink_call c x k).answer ≡ 17 → Counted (new_reading x.packet.ep_eui x.packet.packet_cnt)
+    counts_new : answer_happened (uplink_call c x k).answer ≡ 17 → Counts (new_reading x.packet.ep_eui x.packet.packet_cnt)
     unfolding to_table credited
     counts_new q =
         let t = uplink_told c x.packet.ep_eui x.packet.packet_cnt k in
         ap (played d credit.columns) (sym (is_new x.packet.ep_eui x.packet.packet_cnt credit.answer credit.refusal _ t.number t.small q))
 
-    counts_none : (answer_happened (uplink_call c x k).answer ≡ 17 → ⊥) → Counted no_reading
+    counts_none : (answer_happened (uplink_call c x k).answer ≡ 17 → ⊥) → Counts no_reading
     unfolding to_table credited
     counts_none q =
         let t = uplink_told c x.packet.ep_eui x.packet.packet_cnt k in
@@ -180,13 +188,13 @@ module _ (c : Columns) (k : ℕ) where
   after_accepted b a z = simp (eq-eqb (step_refusal a.answer) 0 z) refl
 
   module _ (h : Lends) (d : List ℕ) (a : Answered) where
-    play_unread : (a.told.refusal ≡ 0 → ⊥) → played d c no_reading ≡ play_of h d c k a
+    play_unread : (b : Broken) → a.told ≡ Err b → played d c no_reading ≡ play_of h d c k a
     unfolding play_of
-    play_unread n = simp (ne_eqb a.told.refusal 0 n) refl
+    play_unread b e = sym (ap (play_told h d c k a.lent) e)
 
-    play_read : a.told.refusal ≡ 0 → after_arrival c k a.told.message.body (arrival h d a.told.message a.lent) ≡ play_of h d c k a
+    play_read : (x : Counted) → a.told ≡ Ok x → after_arrival c k x.message.body (arrival h d x.message a.lent) ≡ play_of h d c k a
     unfolding play_of
-    play_read z = simp (eq-eqb a.told.refusal 0 z) refl
+    play_read x e = sym (ap (play_told h d c k a.lent) e)
 
 -- a message that arrives with bytes that it fits
 module _ (h : Lends) (d : List ℕ) where
@@ -230,30 +238,28 @@ module _ (h : Lends) (payload m e d : List ℕ) (c : Columns) (k : ℕ) (are : I
     got_is : g ≡ got (told_into there.told m) here.lent
     got_is = r.meant long here (answer_meant payload e) ∙ ap (λ (t : Told). got (told_into t m) here.lent) same
 
-    refusal_is : answer_refusal g.answer ≡ there.told.refusal
-    refusal_is = ap (λ (x : Got). answer_refusal x.answer) got_is ∙ told_refusal there.told m knows.small
+    refusal_is : answer_refusal g.answer ≡ refusal_told there.told
+    refusal_is = ap (λ (x : Got). answer_refusal x.answer) got_is ∙ told_refusal there.told m
 
     -- where nothing was refused
     module _ (q : answer_refusal g.answer ≡ 0) where
-      abbrev own : Message
-      own = there.told.message
+      whole_there : (x : Counted) × (there.told ≡ Ok x)
+      whole_there = told_ok there.told (sym refusal_is ∙ q)
 
-      zero_there : there.told.refusal ≡ 0
-      zero_there = sym refusal_is ∙ q
+      abbrev own : Message
+      own = whole_there.0.message
 
       fits_there : fits own there.lent ≡ true
-      fits_there = read_writes payload scratch there (answer_meant payload scratch) zero_there
+      fits_there = read_writes payload scratch there (answer_meant payload scratch) whole_there.0 whole_there.1
 
       fits_here : fits own here.lent ≡ true
-      fits_here =
-          ap (λ (t : Told). fits t.message here.lent) (sym same)
-          ∙ read_writes payload e here (answer_meant payload e) (ap (λ (t : Told). t.refusal) same ∙ zero_there)
+      fits_here = read_writes payload e here (answer_meant payload e) whole_there.0 (same ∙ whole_there.1)
 
       image_is : g.message ≡ message_image own
-      image_is = ap (λ (x : Got). x.message) got_is ∙ ap (λ (x : Filled). x.bytes) (told_whole there.told m zero_there)
+      image_is = ap (λ (x : Got). x.message) got_is ∙ ap (λ (x : Filled). x.bytes) (told_whole there.told m whole_there.0 whole_there.1)
 
       message_is : message_at g.message ≡ own
-      message_is = ap message_at image_is ∙ message_back own (fitting_held own there.lent fits_there knows.typed)
+      message_is = ap message_at image_is ∙ message_back own (fitting_held own there.lent fits_there (knows whole_there.0 whole_there.1))
 
       abbrev came : Called
       came = arrival h d own there.lent
@@ -277,18 +283,20 @@ module _ (h : Lends) (payload m e d : List ℕ) (c : Columns) (k : ℕ) (are : I
       refused_plays : (answer_refusal (arrive_call h d g).answer ≡ 0 → ⊥) → Plays h payload d c k (played (arrive_call h d g).session c no_reading)
       refused_plays n =
           plays _
-          (ap (λ (s : List ℕ). played s c no_reading) session_is ∙ after_refused c k own.body came (λ z. n (arrival_is ∙ z)) ∙ play_read c k h d there zero_there)
+          (ap (λ (s : List ℕ). played s c no_reading) session_is ∙ after_refused c k own.body came (λ z. n (arrival_is ∙ z)) ∙ play_read c k h d there whole_there.0 whole_there.1)
 
       accepted_plays : answer_refusal (arrive_call h d g).answer ≡ 0 → (t : Columns) (x : Option Credited) → ((s : List ℕ) → played s t x ≡ to_table s c k (message_at g.message).body)
           → Plays h payload d c k (played (arrive_call h d g).session t x)
       accepted_plays z t x f =
           plays _
           (ap (λ (s : List ℕ). played s t x) session_is ∙ f came.session ∙ ap (λ (y : Message). to_table came.session c k y.body) message_is
-          ∙ after_accepted c k own.body came (sym arrival_is ∙ z) ∙ play_read c k h d there zero_there)
+          ∙ after_accepted c k own.body came (sym arrival_is ∙ z) ∙ play_read c k h d there whole_there.0 whole_there.1)
 
   -- what the calls leave is what is played
   pub calls_play : (p : Played) → Calls h payload m e d c k p → Plays h payload d c k p
-  calls_play p (Calls.unread g r n) = plays _ (play_unread c k h d there (λ z. n (refusal_is g r ∙ z)))
+  calls_play p (Calls.unread g r n) =
+      let w = told_err there.told (λ z. n (refusal_is g r ∙ z)) in
+      plays _ (play_unread c k h d there w.0 w.1)
   calls_play p (Calls.refused g r q n) = refused_plays g r q n
   calls_play p (Calls.passed g r q z n) = accepted_plays g r q z c no_reading (λ s. passes c k s (message_at g.message).body n)
   calls_play p (Calls.credited g x r q z b n) =

@@ -21,7 +21,6 @@ use Rattle.record.specs.Meant.{Answered, answer_of, lent_size, Meant}
 use Rattle.record.proofs.{Typed.Typed, Payloads.payload_some, Payloads.payload_short, Answered.answer_meant, Answers.read_frame}
 use Rattle.reading.specs.declared.Unframed.{Unframed}
 use Rattle.reading.specs.Framed.{answer_in, MeantFramed}
-use Rattle.reading.proofs.Framing.{whole_told}
 use Rattle.std.specs.Prelude.{Result, Ok, Err}
 use Rattle.refusal.specs.declared.Refusal.{Refusal, TheVariants.Invalid, TheVariants.RoomTooShort}
 use Rattle.writer.specs.Write.{Sent, sent, framed, written}
@@ -99,7 +98,7 @@ written_read_back m d room buffer n t a l r e meant =
     let w : Ok (length f) ≡ Ok n = sym (ap (λ (x : Sent). x.answer) s) ∙ a in
     let size : length f ≡ n = cc in
     let k : MeantFramed (put_at room 0 f) buffer r e = subst (λ (x : Sent). MeantFramed x.room buffer r e) s meant in
-    let told = whole_told (put_at room 0 f) buffer (length (payload_for m d)) (whole m d room i j) r e k in (
+    let told = k.whole (length (payload_for m d)) (whole m d room i j) in (
       k.used ∙ ap used_of (whole m d room i j) ∙ sym (long m d room i j) ∙ size,
       read_frame m d i t buffer l (answer_in r e) (subst (λ (x : List ℕ). Meant x buffer (answer_in r e)) (part m d room i j) told),
     )

@@ -1,3 +1,4 @@
+-- By the Result that is read and by whether the session accepts it; `search` gives up at its limits. Assumes nothing.
 use mathlib.Core.Path.{refl}
 use Rattle.play.proofs.Playing.{unread_plays, refused_plays, accepted_plays}
 use Rattle.play.proofs.play.Goals as goal
