@@ -11,7 +11,7 @@ fn one(b: bool) -> u8
     ensures value { result ≡ one_if b }
     ensures few { result ≤ 1 }
 {
-    if b { 1 } else { 0 }
+    u8::from(b)
 }
 
 // How many pairs a message has: those that it always has, and of five optional ones those that are there. No array of them: the sum would be no plainer.
@@ -24,6 +24,7 @@ pub fn count(always: u8, a: bool, b: bool, c: bool, d: bool, e: bool) -> u8
 }
 
 // The names of command, of the command and of opId are lent as they are written.
+#[tactic(auto, using(crate::proofs::Putting::title_put))]
 pub fn title(room: &mut [u8], at: usize, n: u8, names: &[u8], id: i64) -> usize
     ensures { ◌≡◌ {A = Put} (put room.new result) (put_parts (map_parts n ++ (names.now ∷ whole_parts id)) (put room.old at)) }
 {

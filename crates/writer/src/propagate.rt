@@ -35,8 +35,8 @@ fn attachment(room: &mut [u8], at: usize, key: record::Sixteen, short: u16, coun
     ensures { ◌≡◌ {A = Put} (put room.new result) (put_parts (attachment_parts key short counter) (put room.old at)) }
 {
     let a = pair::sixteen(room, at, b"\xA8nwkSnKey", key);
-    let b = pair::field(room, a, true, b"\xA6shAddr", short as u64);
-    pair::field(room, b, true, b"\xADlastPacketCnt", counter as u64)
+    let b = pair::field(room, a, true, b"\xA6shAddr", short);
+    pair::field(room, b, true, b"\xADlastPacketCnt", counter)
 }
 
 fn modes(room: &mut [u8], at: usize, dual: bool, repeated: bool, wide: bool, long: bool) -> usize

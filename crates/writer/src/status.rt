@@ -43,9 +43,9 @@ fn load(room: &mut [u8], at: usize, x: StatusRsp) -> usize
     ensures { ◌≡◌ {A = Put} (put room.new result) (put_parts (load_parts x) (put room.old at)) }
 {
     let g = x.geo_location;
-    let a = pair::position(room, at, b"\xABgeoLocation", g);
-    let b = pair::field(room, a, x.uptime.here, b"\xA6uptime", x.uptime.value);
-    let c = pair::field(room, b, x.temp.here, b"\xA4temp", x.temp.value);
-    let d = pair::field(room, c, x.cpu_load.here, b"\xA7cpuLoad", x.cpu_load.value);
-    pair::field(room, d, x.mem_load.here, b"\xA7memLoad", x.mem_load.value)
+    let a = pair::maybe(room, at, b"\xABgeoLocation", g);
+    let b = pair::maybe(room, a, b"\xA6uptime", x.uptime);
+    let c = pair::maybe(room, b, b"\xA4temp", x.temp);
+    let d = pair::maybe(room, c, b"\xA7cpuLoad", x.cpu_load);
+    pair::maybe(room, d, b"\xA7memLoad", x.mem_load)
 }
