@@ -28,6 +28,7 @@ pub fn con(room: &mut [u8], at: usize, op_id: i64, x: Con) -> usize
     resume(room, b, u, s, c)
 }
 
+#[tactic(auto, using(crate::proofs::Putting::chains), unfolding(crate::specs::Code::Parts::station_parts))]
 fn station(room: &mut [u8], at: usize, x: Con) -> usize
     ensures { ◌≡◌ {A = Put} (put room.new result) (put_parts (station_parts x) (put room.old at)) }
 {
@@ -40,6 +41,7 @@ fn station(room: &mut [u8], at: usize, x: Con) -> usize
 }
 
 // What a station tells of the session that it would resume.
+#[tactic(auto, using(crate::proofs::Putting::chains), unfolding(crate::specs::Code::Parts::resume_parts))]
 fn resume(
     room: &mut [u8],
     at: usize,
@@ -62,6 +64,7 @@ pub fn con_rsp(room: &mut [u8], at: usize, op_id: i64, x: ConRsp) -> usize
     centre(room, a, x)
 }
 
+#[tactic(auto, using(crate::proofs::Putting::chains), unfolding(crate::specs::Code::Parts::centre_parts))]
 fn centre(room: &mut [u8], at: usize, x: ConRsp) -> usize
     ensures { ◌≡◌ {A = Put} (put room.new result) (put_parts (centre_parts x) (put room.old at)) }
 {

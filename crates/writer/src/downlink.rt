@@ -52,6 +52,7 @@ fn pairs(x: DlDataQue, prior: bool) -> u8
     )
 }
 
+#[tactic(auto, using(crate::proofs::Putting::chains), unfolding(crate::specs::Code::Parts::queue_parts))]
 fn queue(room: &mut [u8], at: usize, x: DlDataQue, d: &[u8]) -> usize
     requires { (x.entries ≤ 16) × (80 + sum_of (lengths_lent x.entries d.now) ≤ length d.now) }
     ensures { ◌≡◌ {A = Put} (put room.new result) (put_parts (queue_parts x d.now) (put room.old at)) }
@@ -64,6 +65,7 @@ fn queue(room: &mut [u8], at: usize, x: DlDataQue, d: &[u8]) -> usize
 }
 
 // A format of 0 isn't written.
+#[tactic(auto, using(crate::proofs::Putting::chains), unfolding(crate::specs::Code::Parts::weight_parts))]
 fn weight(room: &mut [u8], at: usize, format: u8, prior: bool, prio: f64) -> usize
     ensures { ◌≡◌ {A = Put} (put room.new result) (put_parts (weight_parts format prior prio) (put room.old at)) }
 {

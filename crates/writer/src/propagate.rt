@@ -24,6 +24,7 @@ pub fn att_prp(room: &mut [u8], at: usize, op_id: i64, x: record::AttPrp) -> usi
     )
 }
 
+#[tactic(auto, using(crate::proofs::Putting::chains), unfolding(crate::specs::Code::Parts::meter_parts))]
 fn meter(room: &mut [u8], at: usize, eui: u64, bidi: bool) -> usize
     ensures { ◌≡◌ {A = Put} (put room.new result) (put_parts (meter_parts eui bidi) (put room.old at)) }
 {
@@ -31,6 +32,7 @@ fn meter(room: &mut [u8], at: usize, eui: u64, bidi: bool) -> usize
     pair::field(room, a, true, b"\xA4bidi", bidi)
 }
 
+#[tactic(auto, using(crate::proofs::Putting::chains), unfolding(crate::specs::Code::Parts::attachment_parts))]
 fn attachment(room: &mut [u8], at: usize, key: record::Sixteen, short: u16, counter: u32) -> usize
     ensures { ◌≡◌ {A = Put} (put room.new result) (put_parts (attachment_parts key short counter) (put room.old at)) }
 {

@@ -43,6 +43,7 @@ pub fn ul_data(room: &mut [u8], at: usize, op_id: i64, x: record::UlData, d: &[u
     answer(room, c, x.format, x.dl_open, x.response_exp, x.dl_ack)
 }
 
+#[tactic(auto, using(crate::proofs::Putting::chains), unfolding(crate::specs::Code::Parts::packet_parts))]
 fn packet(room: &mut [u8], at: usize, p: Packet) -> usize
     ensures { ◌≡◌ {A = Put} (put room.new result) (put_parts (packet_parts p) (put room.old at)) }
 {
@@ -62,6 +63,7 @@ fn times(room: &mut [u8], at: usize, p: Packet) -> usize
     pair::field(room, c, true, b"\xA9packetCnt", p.packet_cnt)
 }
 
+#[tactic(auto, using(crate::proofs::Putting::chains), unfolding(crate::specs::Code::Parts::signal_parts))]
 fn signal(room: &mut [u8], at: usize, s: message::Signal) -> usize
     ensures { ◌≡◌ {A = Put} (put room.new result) (put_parts (signal_parts s) (put room.old at)) }
 {

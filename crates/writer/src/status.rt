@@ -31,6 +31,7 @@ fn report(room: &mut [u8], at: usize, x: StatusRsp, d: &[u8]) -> usize
     load(room, b, x)
 }
 
+#[tactic(auto, using(crate::proofs::Putting::chains), unfolding(crate::specs::Code::Parts::duty_parts))]
 fn duty(room: &mut [u8], at: usize, d: &[u8], n: u8, time: u64, cycle: f64) -> usize
     ensures { ◌≡◌ {A = Put} (put room.new result) (put_parts (duty_parts (take n d.now) time cycle) (put room.old at)) }
 {
@@ -39,6 +40,7 @@ fn duty(room: &mut [u8], at: usize, d: &[u8], n: u8, time: u64, cycle: f64) -> u
     pair::field(room, b, true, b"\xA9dutyCycle", cycle)
 }
 
+#[tactic(auto, using(crate::proofs::Putting::chains), unfolding(crate::specs::Code::Parts::load_parts))]
 fn load(room: &mut [u8], at: usize, x: StatusRsp) -> usize
     ensures { ◌≡◌ {A = Put} (put room.new result) (put_parts (load_parts x) (put room.old at)) }
 {
