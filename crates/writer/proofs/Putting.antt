@@ -47,9 +47,6 @@ module _ (a b : Put) (z : ℤ) where
   pub code_put : SFits w32 z → b ≡ put_parts (whole_parts (to_z w64 (of_z w64 (to_z w32 (of_z w32 z))))) a → b ≡ put_parts (whole_parts z) a
   code_put f g = rw (to_z-of_z w64 (to_z w32 (of_z w32 z)) (code_wide z f), to_z-of_z w32 z f) at g
 
-  pub pair_id : (k : List ℕ) (here : Bool) → SFits w64 z → b ≡ put_parts (pair_part here k (whole_parts (to_z w64 (of_z w64 z)))) a → b ≡ put_parts (pair_part here k (whole_parts z)) a
-  pair_id k here f g = rw (to_z-of_z w64 z f) at g
-
 pub ruleset pairs = (pair_none, pair_always, pair_put)
 
 -- fields one behind the other: two to five
@@ -130,10 +127,10 @@ unfolding sixteen_bytes
 sixteen_long x = omega (arith, length-append (big_bytes 8 x.high) (big_bytes 8 x.low), length_big 8 x.high, length_big 8 x.low)
 
 module _ (k : List ℕ) (a b : Put) where
-  pub four_put : (s t : List ℕ) (x : ℕ) → length s ≡ 4 → t ≡ put_number s 0 4 (big_bytes 4 x) → b ≡ put_parts (pair_part true k (numbers_parts (take 4 t))) a → b ≡ put_parts (pair_part true k (numbers_parts (big_bytes 4 x))) a
-  four_put s t x l e f =
+  pub four_put : (s t : List ℕ) (x y : ℕ) → length s ≡ 4 → y ≡ x → t ≡ put_number s 0 4 (big_bytes 4 y) → b ≡ put_parts (pair_part true k (numbers_parts (take 4 t))) a → b ≡ put_parts (pair_part true k (numbers_parts (big_bytes 4 x))) a
+  four_put s t x y l g e f =
       let w = big_bytes 4 x in
-      let i : t ≡ w = e ∙ put_whole s w (omega (arith, length_big 4 x)) in
+      let i : t ≡ w = rw g at e ∙ put_whole s w (omega (arith, length_big 4 x)) in
       let j : take 4 w ≡ w = take_all 4 w (omega (arith, length_big 4 x)) in
       rw (i, j) at f
 

@@ -28,18 +28,20 @@ pub fn con(room: &mut [u8], at: usize, op_id: i64, x: Con) -> usize
     resume(room, b, u, s, c)
 }
 
+#[tactic(auto, using(crate::proofs::Putting::chains), unfolding(crate::specs::Code::Parts::station_parts))]
 fn station(room: &mut [u8], at: usize, x: Con) -> usize
     ensures { ◌≡◌ {A = Put} (put room.new result) (put_parts (station_parts x) (put room.old at)) }
 {
     let v = x.version;
     let g = x.geo_location;
-    let a = pair::version(room, at, b"\xA7version", v);
+    let a = pair::maybe(room, at, b"\xA7version", v);
     let b = pair::field(room, a, true, b"\xA5bsEui", x.bs_eui);
     let c = pair::field(room, b, true, b"\xA4bidi", x.bidi);
-    pair::position(room, c, b"\xABgeoLocation", g)
+    pair::maybe(room, c, b"\xABgeoLocation", g)
 }
 
 // What a station tells of the session that it would resume.
+#[tactic(auto, using(crate::proofs::Putting::chains), unfolding(crate::specs::Code::Parts::resume_parts))]
 fn resume(
     room: &mut [u8],
     at: usize,
@@ -50,8 +52,8 @@ fn resume(
     ensures { ◌≡◌ {A = Put} (put room.new result) (put_parts (resume_parts uuid station centre) (put room.old at)) }
 {
     let a = pair::sixteen(room, at, b"\xA8snBsUuid", uuid);
-    let b = pair::id(room, a, b"\xA8snBsOpId", station);
-    pair::id(room, b, b"\xA8snScOpId", centre)
+    let b = pair::maybe(room, a, b"\xA8snBsOpId", station);
+    pair::maybe(room, b, b"\xA8snScOpId", centre)
 }
 
 pub fn con_rsp(room: &mut [u8], at: usize, op_id: i64, x: ConRsp) -> usize
@@ -62,12 +64,13 @@ pub fn con_rsp(room: &mut [u8], at: usize, op_id: i64, x: ConRsp) -> usize
     centre(room, a, x)
 }
 
+#[tactic(auto, using(crate::proofs::Putting::chains), unfolding(crate::specs::Code::Parts::centre_parts))]
 fn centre(room: &mut [u8], at: usize, x: ConRsp) -> usize
     ensures { ◌≡◌ {A = Put} (put room.new result) (put_parts (centre_parts x) (put room.old at)) }
 {
     let v = x.version;
     let u = x.sn_sc_uuid;
-    let a = pair::version(room, at, b"\xA7version", v);
+    let a = pair::maybe(room, at, b"\xA7version", v);
     let b = pair::field(room, a, true, b"\xA5scEui", x.sc_eui);
     let c = pair::field(room, b, true, b"\xA8snResume", x.sn_resume);
     pair::sixteen(room, c, b"\xA8snScUuid", u)

@@ -52,6 +52,7 @@ fn pairs(x: DlDataQue, prior: bool) -> u8
     )
 }
 
+#[tactic(auto, using(crate::proofs::Putting::chains), unfolding(crate::specs::Code::Parts::queue_parts))]
 fn queue(room: &mut [u8], at: usize, x: DlDataQue, d: &[u8]) -> usize
     requires { (x.entries ≤ 16) × (80 + sum_of (lengths_lent x.entries d.now) ≤ length d.now) }
     ensures { ◌≡◌ {A = Put} (put room.new result) (put_parts (queue_parts x d.now) (put room.old at)) }
@@ -64,36 +65,19 @@ fn queue(room: &mut [u8], at: usize, x: DlDataQue, d: &[u8]) -> usize
 }
 
 // A format of 0 isn't written.
+#[tactic(auto, using(crate::proofs::Putting::chains), unfolding(crate::specs::Code::Parts::weight_parts))]
 fn weight(room: &mut [u8], at: usize, format: u8, prior: bool, prio: f64) -> usize
     ensures { ◌≡◌ {A = Put} (put room.new result) (put_parts (weight_parts format prior prio) (put room.old at)) }
 {
-    let a = pair::field(room, at, format != 0, b"\xA6format", format as u64);
+    let a = pair::field(room, at, format != 0, b"\xA6format", format);
     pair::field(room, a, prior, b"\xA4prio", prio)
 }
 
 fn wishes(room: &mut [u8], at: usize, x: DlDataQue) -> usize
     ensures { ◌≡◌ {A = Put} (put room.new result) (put_parts (wishes_parts x) (put room.old at)) }
 {
-    let a = pair::field(
-        room,
-        at,
-        x.response_exp.here,
-        b"\xABresponseExp",
-        x.response_exp.value,
-    );
-    let b = pair::field(
-        room,
-        a,
-        x.response_prio.here,
-        b"\xACresponsePrio",
-        x.response_prio.value,
-    );
-    let c = pair::field(
-        room,
-        b,
-        x.dl_wind_req.here,
-        b"\xA9dlWindReq",
-        x.dl_wind_req.value,
-    );
-    pair::field(room, c, x.exp_only.here, b"\xA7expOnly", x.exp_only.value)
+    let a = pair::maybe(room, at, b"\xABresponseExp", x.response_exp);
+    let b = pair::maybe(room, a, b"\xACresponsePrio", x.response_prio);
+    let c = pair::maybe(room, b, b"\xA9dlWindReq", x.dl_wind_req);
+    pair::maybe(room, c, b"\xA7expOnly", x.exp_only)
 }

@@ -3,16 +3,9 @@ ghost use mathlib.Core.{Path.◌≡◌, Bool.true, List.[], List.◌∷◌, List
 ghost use Rattle.std.specs.Prelude.{◌+◌, ◌≤◌, ◌<◌};
 ghost use Rattle.forms.specs.Code.Put.{Put, put, put_parts, map_parts, whole_parts};
 ghost use Rattle.record.specs.{Says.is_bare, declared.Body.Body};
-ghost use Rattle.writer.specs.Code.Parts.{one_if, pairs_present, body_parts};
+ghost use Rattle.writer.specs.Code.Parts.{pairs_present, body_parts};
 
 use names::numbers;
-
-fn one(b: bool) -> u8
-    ensures value { result ≡ one_if b }
-    ensures few { result ≤ 1 }
-{
-    if b { 1 } else { 0 }
-}
 
 // How many pairs a message has: those that it always has, and of five optional ones those that are there. No array of them: the sum would be no plainer.
 pub fn count(always: u8, a: bool, b: bool, c: bool, d: bool, e: bool) -> u8
@@ -20,10 +13,11 @@ pub fn count(always: u8, a: bool, b: bool, c: bool, d: bool, e: bool) -> u8
     ensures value { result ≡ pairs_present always a b c d e }
     ensures few { result ≤ always + 5 }
 {
-    always + one(a) + one(b) + one(c) + one(d) + one(e)
+    always + u8::from(a) + u8::from(b) + u8::from(c) + u8::from(d) + u8::from(e)
 }
 
 // The names of command, of the command and of opId are lent as they are written.
+#[tactic(auto, using(crate::proofs::Putting::title_put))]
 pub fn title(room: &mut [u8], at: usize, n: u8, names: &[u8], id: i64) -> usize
     ensures { ◌≡◌ {A = Put} (put room.new result) (put_parts (map_parts n ++ (names.now ∷ whole_parts id)) (put room.old at)) }
 {

@@ -28,6 +28,7 @@ pub const MOST_REPLY: usize = 145;
 
 // A record with the bytes d that are lent beside it, as a whole frame at the start of the room: its length; the rest of the room stays. A record outside its
 // ranges is refused with 15, then a room shorter than the frame with 20, and the room is as it was. Any contents may be handed in.
+#[tactic(auto, using(crate::proofs::Framing::writes))]
 pub fn write(m: Message, d: &[u8], room: &mut [u8]) -> Result<usize, Refusal>
     ensures { ◌≡◌ {A = Sent} (sent result room.new) (written m d.now room.old) }
 {
@@ -85,6 +86,7 @@ fn deliver(made: &[u8], room: &mut [u8]) -> Result<usize, Refusal>
 }
 
 // The 12 bytes in front of a payload that ends at a place.
+#[tactic(auto, using(crate::proofs::Framing::head_put))]
 fn frame(room: &mut [u8], end: usize)
     requires { 12 ≤ end }
     ensures { room.new ≡ with_head room.old end }

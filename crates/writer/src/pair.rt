@@ -5,7 +5,7 @@ ghost use lib.{Dec.eqb, IntN.pos, ListN.length, ListN.take};
 ghost use Rattle.octets.specs.{Bytes.big_bytes, Pieces.counters_lent, Pieces.lengths_lent, Pieces.pieces_lent, Pieces.sum_of};
 ghost use Rattle.forms.specs.Code.Put.{Put, put, put_parts, whole_parts, real_parts, mark_parts, text_parts, numbers_parts, pieces_parts};
 ghost use Rattle.record.specs.Says.{sixteen_bytes};
-ghost use Rattle.writer.specs.Code.Parts.{text, pair_part, id_part, position_part, version_part};
+ghost use Rattle.writer.specs.Code.Parts.{text, pair_part, maybe_part, place_parts, release_parts};
 
 use field::Position;
 use message::{Maybe, Version};
@@ -25,6 +25,30 @@ impl Value for u64 {
 
     fn write(self, room: &mut [u8], at: usize) -> usize {
         forms::put_word(room, at, self)
+    }
+}
+
+impl Value for u8 {
+    ghost parts = { λ x. whole_parts (pos x) };
+
+    fn write(self, room: &mut [u8], at: usize) -> usize {
+        forms::put_word(room, at, u64::from(self))
+    }
+}
+
+impl Value for u16 {
+    ghost parts = { λ x. whole_parts (pos x) };
+
+    fn write(self, room: &mut [u8], at: usize) -> usize {
+        forms::put_word(room, at, u64::from(self))
+    }
+}
+
+impl Value for u32 {
+    ghost parts = { λ x. whole_parts (pos x) };
+
+    fn write(self, room: &mut [u8], at: usize) -> usize {
+        forms::put_word(room, at, u64::from(self))
     }
 }
 
@@ -62,6 +86,22 @@ impl Value for f64 {
     }
 }
 
+impl Value for Position {
+    ghost parts = { λ x. place_parts x };
+
+    fn write(self, room: &mut [u8], at: usize) -> usize {
+        forms::put_position(room, at, self.latitude, self.longitude, self.altitude)
+    }
+}
+
+impl Value for Version {
+    ghost parts = { λ x. release_parts x };
+
+    fn write(self, room: &mut [u8], at: usize) -> usize {
+        forms::put_version(room, at, self.major, self.minor, self.patch)
+    }
+}
+
 #[tactic(auto, using(crate::proofs::Putting::pairs))]
 pub fn field<V: Value>(room: &mut [u8], at: usize, here: bool, key: &[u8], x: V) -> usize
     ensures { ◌≡◌ {A = Put} (put room.new result) (put_parts (pair_part here key.now (V.parts x)) (put room.old at)) }
@@ -73,15 +113,15 @@ pub fn field<V: Value>(room: &mut [u8], at: usize, here: bool, key: &[u8], x: V)
     x.write(room, next)
 }
 
-#[tactic(auto, using(crate::proofs::Putting::pair_id))]
-pub fn id(room: &mut [u8], at: usize, key: &[u8], x: Maybe<i64>) -> usize
-    ensures { ◌≡◌ {A = Put} (put room.new result) (put_parts (id_part key.now x) (put room.old at)) }
+pub fn maybe<V: Value>(room: &mut [u8], at: usize, key: &[u8], x: Maybe<V>) -> usize
+    ensures { ◌≡◌ {A = Put} (put room.new result) (put_parts (maybe_part V.parts key.now x) (put room.old at)) }
 {
     field(room, at, x.here, key, x.value)
 }
 
 // Of lent bytes the first n are written, counters and data entries under a requires: so these are no `Value`, which is all of what is written.
 // The first n bytes of d, as an array of numbers.
+#[tactic(auto, using(crate::proofs::Putting::pairs))]
 pub fn octets(room: &mut [u8], at: usize, key: &[u8], d: &[u8], n: u8) -> usize
     ensures { ◌≡◌ {A = Put} (put room.new result) (put_parts (pair_part true key.now (numbers_parts (take n d.now))) (put room.old at)) }
 {
@@ -90,6 +130,7 @@ pub fn octets(room: &mut [u8], at: usize, key: &[u8], d: &[u8], n: u8) -> usize
 }
 
 // The first n of a downlink's counters in d, as an array of numbers.
+#[tactic(auto, using(crate::proofs::Putting::pairs))]
 pub fn counters(room: &mut [u8], at: usize, here: bool, key: &[u8], d: &[u8], n: u8) -> usize
     requires { (n ≤ 16) × (64 ≤ length d.now) }
     ensures { ◌≡◌ {A = Put} (put room.new result) (put_parts (pair_part here key.now (numbers_parts (counters_lent n d.now))) (put room.old at)) }
@@ -102,6 +143,7 @@ pub fn counters(room: &mut [u8], at: usize, here: bool, key: &[u8], d: &[u8], n:
 }
 
 // The first n of a downlink's data entries in d, as an array of arrays of numbers.
+#[tactic(auto, using(crate::proofs::Putting::pairs))]
 pub fn pieces(room: &mut [u8], at: usize, key: &[u8], d: &[u8], n: u8) -> usize
     requires { (n ≤ 16) × (80 + sum_of (lengths_lent n d.now) ≤ length d.now) }
     ensures { ◌≡◌ {A = Put} (put room.new result) (put_parts (pair_part true key.now (pieces_parts (pieces_lent n d.now))) (put room.old at)) }
@@ -111,6 +153,7 @@ pub fn pieces(room: &mut [u8], at: usize, key: &[u8], d: &[u8], n: u8) -> usize
 }
 
 // The first n bytes of d, as a text.
+#[tactic(auto, using(crate::proofs::Putting::pairs))]
 pub fn text(room: &mut [u8], at: usize, key: &[u8], d: &[u8], n: u8) -> usize
     ensures { ◌≡◌ {A = Put} (put room.new result) (put_parts (pair_part true key.now (text_parts (take n d.now))) (put room.old at)) }
 {
@@ -118,37 +161,11 @@ pub fn text(room: &mut [u8], at: usize, key: &[u8], d: &[u8], n: u8) -> usize
     forms::put_text(room, next, d, n)
 }
 
-pub fn position(room: &mut [u8], at: usize, key: &[u8], x: Maybe<Position>) -> usize
-    ensures { ◌≡◌ {A = Put} (put room.new result) (put_parts (position_part key.now x) (put room.old at)) }
-{
-    if !x.here {
-        return at;
-    }
-    let next = forms::put_run(room, at, key);
-    forms::put_position(
-        room,
-        next,
-        x.value.latitude,
-        x.value.longitude,
-        x.value.altitude,
-    )
-}
-
-pub fn version(room: &mut [u8], at: usize, key: &[u8], x: Maybe<Version>) -> usize
-    ensures { ◌≡◌ {A = Put} (put room.new result) (put_parts (version_part key.now x) (put room.old at)) }
-{
-    if !x.here {
-        return at;
-    }
-    let next = forms::put_run(room, at, key);
-    forms::put_version(room, next, x.value.major, x.value.minor, x.value.patch)
-}
-
 pub fn four(room: &mut [u8], at: usize, key: &[u8], x: u32) -> usize
     ensures { ◌≡◌ {A = Put} (put room.new result) (put_parts (pair_part true key.now (numbers_parts (big_bytes 4 x))) (put room.old at)) }
 {
     let mut t = [0u8; 4];
-    octets::put_big(&mut t, 0, 4, x as u64);
+    octets::put_big(&mut t, 0, 4, u64::from(x));
     octets(room, at, key, &t, 4)
 }
 
@@ -170,6 +187,7 @@ pub fn sixteen(room: &mut [u8], at: usize, key: &[u8], x: Sixteen) -> usize
 }
 
 // A profile of no bytes is absent.
+#[tactic(auto, using(crate::proofs::Putting::numbers))]
 pub fn profile(room: &mut [u8], at: usize, n: u8, x: Sixteen) -> usize
     ensures { ◌≡◌ {A = Put} (put room.new result) (put_parts (pair_part (not (eqb n 0)) (text "profile") (text_parts (take n (sixteen_bytes x)))) (put room.old at)) }
 {

@@ -24,6 +24,7 @@ pub fn att_prp(room: &mut [u8], at: usize, op_id: i64, x: record::AttPrp) -> usi
     )
 }
 
+#[tactic(auto, using(crate::proofs::Putting::chains), unfolding(crate::specs::Code::Parts::meter_parts))]
 fn meter(room: &mut [u8], at: usize, eui: u64, bidi: bool) -> usize
     ensures { ◌≡◌ {A = Put} (put room.new result) (put_parts (meter_parts eui bidi) (put room.old at)) }
 {
@@ -31,12 +32,13 @@ fn meter(room: &mut [u8], at: usize, eui: u64, bidi: bool) -> usize
     pair::field(room, a, true, b"\xA4bidi", bidi)
 }
 
+#[tactic(auto, using(crate::proofs::Putting::chains), unfolding(crate::specs::Code::Parts::attachment_parts))]
 fn attachment(room: &mut [u8], at: usize, key: record::Sixteen, short: u16, counter: u32) -> usize
     ensures { ◌≡◌ {A = Put} (put room.new result) (put_parts (attachment_parts key short counter) (put room.old at)) }
 {
     let a = pair::sixteen(room, at, b"\xA8nwkSnKey", key);
-    let b = pair::field(room, a, true, b"\xA6shAddr", short as u64);
-    pair::field(room, b, true, b"\xADlastPacketCnt", counter as u64)
+    let b = pair::field(room, a, true, b"\xA6shAddr", short);
+    pair::field(room, b, true, b"\xADlastPacketCnt", counter)
 }
 
 fn modes(room: &mut [u8], at: usize, dual: bool, repeated: bool, wide: bool, long: bool) -> usize

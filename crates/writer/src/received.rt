@@ -43,6 +43,7 @@ pub fn ul_data(room: &mut [u8], at: usize, op_id: i64, x: record::UlData, d: &[u
     answer(room, c, x.format, x.dl_open, x.response_exp, x.dl_ack)
 }
 
+#[tactic(auto, using(crate::proofs::Putting::chains), unfolding(crate::specs::Code::Parts::packet_parts))]
 fn packet(room: &mut [u8], at: usize, p: Packet) -> usize
     ensures { ◌≡◌ {A = Put} (put room.new result) (put_parts (packet_parts p) (put room.old at)) }
 {
@@ -58,29 +59,24 @@ fn times(room: &mut [u8], at: usize, p: Packet) -> usize
 {
     let a = pair::field(room, at, true, b"\xA5epEui", p.ep_eui);
     let b = pair::field(room, a, true, b"\xA6rxTime", p.rx_time);
-    let c = pair::field(
-        room,
-        b,
-        p.rx_duration.here,
-        b"\xAArxDuration",
-        p.rx_duration.value,
-    );
-    pair::field(room, c, true, b"\xA9packetCnt", p.packet_cnt as u64)
+    let c = pair::maybe(room, b, b"\xAArxDuration", p.rx_duration);
+    pair::field(room, c, true, b"\xA9packetCnt", p.packet_cnt)
 }
 
+#[tactic(auto, using(crate::proofs::Putting::chains), unfolding(crate::specs::Code::Parts::signal_parts))]
 fn signal(room: &mut [u8], at: usize, s: message::Signal) -> usize
     ensures { ◌≡◌ {A = Put} (put room.new result) (put_parts (signal_parts s) (put room.old at)) }
 {
     let a = pair::field(room, at, true, b"\xA3snr", s.snr);
     let b = pair::field(room, a, true, b"\xA4rssi", s.rssi);
-    pair::field(room, b, s.eq_snr.here, b"\xA5eqSnr", s.eq_snr.value)
+    pair::maybe(room, b, b"\xA5eqSnr", s.eq_snr)
 }
 
 // A format of 0 isn't written.
 fn answer(room: &mut [u8], at: usize, format: u8, window: bool, expected: bool, ack: bool) -> usize
     ensures { ◌≡◌ {A = Put} (put room.new result) (put_parts (answer_parts format window expected ack) (put room.old at)) }
 {
-    let a = pair::field(room, at, format != 0, b"\xA6format", format as u64);
+    let a = pair::field(room, at, format != 0, b"\xA6format", format);
     let b = pair::field(room, a, true, b"\xA6dlOpen", window);
     let c = pair::field(room, b, true, b"\xABresponseExp", expected);
     pair::field(room, c, true, b"\xA5dlAck", ack)

@@ -31,6 +31,7 @@ fn report(room: &mut [u8], at: usize, x: StatusRsp, d: &[u8]) -> usize
     load(room, b, x)
 }
 
+#[tactic(auto, using(crate::proofs::Putting::chains), unfolding(crate::specs::Code::Parts::duty_parts))]
 fn duty(room: &mut [u8], at: usize, d: &[u8], n: u8, time: u64, cycle: f64) -> usize
     ensures { ◌≡◌ {A = Put} (put room.new result) (put_parts (duty_parts (take n d.now) time cycle) (put room.old at)) }
 {
@@ -39,13 +40,14 @@ fn duty(room: &mut [u8], at: usize, d: &[u8], n: u8, time: u64, cycle: f64) -> u
     pair::field(room, b, true, b"\xA9dutyCycle", cycle)
 }
 
+#[tactic(auto, using(crate::proofs::Putting::chains), unfolding(crate::specs::Code::Parts::load_parts))]
 fn load(room: &mut [u8], at: usize, x: StatusRsp) -> usize
     ensures { ◌≡◌ {A = Put} (put room.new result) (put_parts (load_parts x) (put room.old at)) }
 {
     let g = x.geo_location;
-    let a = pair::position(room, at, b"\xABgeoLocation", g);
-    let b = pair::field(room, a, x.uptime.here, b"\xA6uptime", x.uptime.value);
-    let c = pair::field(room, b, x.temp.here, b"\xA4temp", x.temp.value);
-    let d = pair::field(room, c, x.cpu_load.here, b"\xA7cpuLoad", x.cpu_load.value);
-    pair::field(room, d, x.mem_load.here, b"\xA7memLoad", x.mem_load.value)
+    let a = pair::maybe(room, at, b"\xABgeoLocation", g);
+    let b = pair::maybe(room, a, b"\xA6uptime", x.uptime);
+    let c = pair::maybe(room, b, b"\xA4temp", x.temp);
+    let d = pair::maybe(room, c, b"\xA7cpuLoad", x.cpu_load);
+    pair::maybe(room, d, b"\xA7memLoad", x.mem_load)
 }

@@ -27,14 +27,18 @@ chained (ps ∷ pss) = ps ++ chained pss
 unfoldable pub pair_part : Bool → List ℕ → List (List ℕ) → List (List ℕ)
 pair_part here key ps = either here (λ _. key ∷ ps) (λ _. [])
 
-abbrev pub id_part : List ℕ → Maybe ℤ → List (List ℕ)
-id_part key w = pair_part w.here key (whole_parts w.value)
+-- the same of a value that may be absent, by the parts of its type's values
+abbrev pub maybe_part : {A : Type 0} → (A → List (List ℕ)) → List ℕ → Maybe A → List (List ℕ)
+maybe_part ps key x = pair_part x.here key (ps x.value)
 
-abbrev pub position_part : List ℕ → Maybe Position → List (List ℕ)
-position_part key p = pair_part p.here key (position_parts p.value.latitude p.value.longitude p.value.altitude)
+abbrev pub word_parts : ℕ → List (List ℕ)
+word_parts n = whole_parts (pos n)
 
-abbrev pub version_part : List ℕ → Maybe Version → List (List ℕ)
-version_part key w = pair_part w.here key (version_parts w.value.major w.value.minor w.value.patch)
+abbrev pub place_parts : Position → List (List ℕ)
+place_parts p = position_parts p.latitude p.longitude p.altitude
+
+abbrev pub release_parts : Version → List (List ℕ)
+release_parts v = version_parts v.major v.minor v.patch
 
 abbrev pub one_if : Bool → ℕ
 one_if b = either b (λ _. 1) (λ _. 0)
@@ -51,25 +55,25 @@ title_parts n name z = map_parts n ++ ((text "command" ++ (short_text name ++ te
 unfoldable pub station_parts : Con → List (List ℕ)
 station_parts x =
     chained
-    (version_part (text "version") x.version ∷
+    (maybe_part release_parts (text "version") x.version ∷
     pair_part true (text "bsEui") (whole_parts (pos x.bs_eui)) ∷
     pair_part true (text "bidi") (mark_parts x.bidi) ∷
-    position_part (text "geoLocation") x.geo_location ∷
+    maybe_part place_parts (text "geoLocation") x.geo_location ∷
     [])
 
 unfoldable pub resume_parts : Sixteen → Maybe ℤ → Maybe ℤ → List (List ℕ)
 resume_parts uuid station centre =
     chained
     (pair_part true (text "snBsUuid") (numbers_parts (sixteen_bytes uuid)) ∷
-    id_part (text "snBsOpId") station ∷
-    id_part (text "snScOpId") centre ∷
+    maybe_part whole_parts (text "snBsOpId") station ∷
+    maybe_part whole_parts (text "snScOpId") centre ∷
     [])
 
 -- conRsp
 unfoldable pub centre_parts : ConRsp → List (List ℕ)
 centre_parts x =
     chained
-    (version_part (text "version") x.version ∷
+    (maybe_part release_parts (text "version") x.version ∷
     pair_part true (text "scEui") (whole_parts (pos x.sc_eui)) ∷
     pair_part true (text "snResume") (mark_parts x.sn_resume) ∷
     pair_part true (text "snScUuid") (numbers_parts (sixteen_bytes x.sn_sc_uuid)) ∷
@@ -87,11 +91,11 @@ duty_parts message time cycle =
 unfoldable pub load_parts : StatusRsp → List (List ℕ)
 load_parts x =
     chained
-    (position_part (text "geoLocation") x.geo_location ∷
-    pair_part x.uptime.here (text "uptime") (whole_parts (pos x.uptime.value)) ∷
-    pair_part x.temp.here (text "temp") (real_parts x.temp.value) ∷
-    pair_part x.cpu_load.here (text "cpuLoad") (real_parts x.cpu_load.value) ∷
-    pair_part x.mem_load.here (text "memLoad") (real_parts x.mem_load.value) ∷
+    (maybe_part place_parts (text "geoLocation") x.geo_location ∷
+    maybe_part word_parts (text "uptime") x.uptime ∷
+    maybe_part real_parts (text "temp") x.temp ∷
+    maybe_part real_parts (text "cpuLoad") x.cpu_load ∷
+    maybe_part real_parts (text "memLoad") x.mem_load ∷
     [])
 
 unfoldable pub report_parts : StatusRsp → List ℕ → List (List ℕ)
@@ -108,7 +112,7 @@ times_parts p =
     chained
     (pair_part true (text "epEui") (whole_parts (pos p.ep_eui)) ∷
     pair_part true (text "rxTime") (whole_parts (pos p.rx_time)) ∷
-    pair_part p.rx_duration.here (text "rxDuration") (whole_parts (pos p.rx_duration.value)) ∷
+    maybe_part word_parts (text "rxDuration") p.rx_duration ∷
     pair_part true (text "packetCnt") (whole_parts (pos p.packet_cnt)) ∷
     [])
 
@@ -117,7 +121,7 @@ signal_parts s =
     chained
     (pair_part true (text "snr") (real_parts s.snr) ∷
     pair_part true (text "rssi") (real_parts s.rssi) ∷
-    pair_part s.eq_snr.here (text "eqSnr") (real_parts s.eq_snr.value) ∷
+    maybe_part real_parts (text "eqSnr") s.eq_snr ∷
     [])
 
 abbrev pub profile_parts : Packet → List (List ℕ)
@@ -182,16 +186,13 @@ weight_parts format prior prio =
     pair_part prior (text "prio") (real_parts prio) ∷
     [])
 
-abbrev pub mark_part : List ℕ → Maybe Bool → List (List ℕ)
-mark_part key w = pair_part w.here key (mark_parts w.value)
-
 unfoldable pub wishes_parts : DlDataQue → List (List ℕ)
 wishes_parts x =
     chained
-    (mark_part (text "responseExp") x.response_exp ∷
-    mark_part (text "responsePrio") x.response_prio ∷
-    mark_part (text "dlWindReq") x.dl_wind_req ∷
-    mark_part (text "expOnly") x.exp_only ∷
+    (maybe_part mark_parts (text "responseExp") x.response_exp ∷
+    maybe_part mark_parts (text "responsePrio") x.response_prio ∷
+    maybe_part mark_parts (text "dlWindReq") x.dl_wind_req ∷
+    maybe_part mark_parts (text "expOnly") x.exp_only ∷
     [])
 
 -- what is to be written of the lent bytes is there; where fewer are lent than another record says, fewer are written
