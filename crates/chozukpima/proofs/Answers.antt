@@ -1,8 +1,10 @@
 -- What the calls answer, packed into one number. Assumes nothing.
 use mathlib.Core.Path.{◌≡◌, refl, sym, ap, ◌∙◌}
-use Prim.Native.Nat.{ℕ, ◌+◌, ◌*◌, ◌≤◌, ◌<◌}
+use mathlib.Core.Bool.{Bool, true, false}
+use lib.{Dec.leb}
+use Prim.Native.Nat.{ℕ, ◌+◌, ◌*◌, ◌≤◌, ◌<◌, min}
 use native.Mathlib.Omega.{arith}
-use borrow.Author.Tests.{le-leb, lt-leb}
+use borrow.Author.Tests.{le-leb, lt-leb, leb-true, leb-false}
 use Rattle.std.specs.Prelude.{Ok, Err}
 use Rattle.refusal.specs.{Number.number_of, declared.Broken.Broken, declared.Refusal.Refusal}
 use Rattle.element.specs.Form.{Walked}
@@ -10,7 +12,7 @@ use Rattle.frame.specs.Frame.{Framed}
 use Rattle.meters.specs.declared.Credit.{Credit}
 use Rattle.meters.specs.Answers.{Found, Uplinked, table_refusal, row_of, credit_refusal_of, credit_row_of, hearers_of}
 use Rattle.meters.specs.Columns.{Columns, Done, told_place, told_credit}
-use Rattle.chozukpima.specs.Packed.{most, shown, packed, frame_answer, form_answer, refused_with, kind_number, credit_kind, credit_value, Tabled, tabled, placed, credit_tabled}
+use Rattle.chozukpima.specs.Packed.{most, shown, packed, frame_answer, form_answer, refused_with, value_answer, kind_number, credit_kind, credit_value, Tabled, tabled, placed, credit_tabled}
 
 pub shown_whole : (v : ℕ) → v ≤ most → v ≡ shown v
 unfolding shown
@@ -20,9 +22,16 @@ pub shown_most : (v : ℕ) → most < v → most ≡ shown v
 unfolding shown
 shown_most v h = sym (simp (lt-leb v most h))
 
-pub packed_as : (a b x y v w : ℕ) → a ≡ x → b ≡ y → v ≡ shown w → a + (256 * b + 65536 * v) ≡ packed x y w
+shown_min : (v : ℕ) → min v most ≡ shown v
+shown_min v = go (leb v most) refl
+  where
+    go : (t : Bool) → leb v most ≡ t → min v most ≡ shown v
+    go true e = let h : v ≤ most = leb-true v most e in let q : min v most ≡ v = omega (arith, h) in q ∙ shown_whole v h
+    go false e = let h : most < v = leb-false v most e in let q : min v most ≡ most = omega (arith, h) in q ∙ shown_most v h
+
+pub packed_as : (a b x y v w : ℕ) → a ≡ x → b ≡ y → v ≡ min w most → a + (256 * b + 65536 * v) ≡ packed x y w
 unfolding packed
-packed_as a b x y v w e f g = rw (e, f, g)
+packed_as a b x y v w e f g = rw (e, f, g ∙ shown_min w)
 
 module _ (f : Framed) (r k : ℕ) where
   pub frame_whole : f ≡ Ok k → r ≡ packed 0 0 (12 + k) → r ≡ frame_answer f
@@ -40,12 +49,9 @@ module _ (w v : Walked) (i : v ≡ w) (r : ℕ) where
       let z : b.place ≡ 0 + b.place = omega arith in
       q ∙ ap (λ x. packed x 0 b.place) n ∙ ap (packed (number_of b.refusal) 0) z ∙ ap form_answer (sym e ∙ i)
 
-module _ (f : Found) (r k : ℕ) where
-  pub place_found : f ≡ Ok k → r ≡ packed 0 0 k → r ≡ packed (table_refusal f) 0 (row_of f)
-  place_found e p = p ∙ ap (λ x. packed (table_refusal x) 0 (row_of x)) (sym e)
-
-  pub place_refused : (n : Refusal) → f ≡ Err n → r ≡ refused_with (number_of n) → r ≡ packed (table_refusal f) 0 (row_of f)
-  place_refused n e p = p ∙ ap (λ x. packed (table_refusal x) 0 (row_of x)) (sym e)
+place_told : (f : Found) → value_answer f ≡ packed (table_refusal f) 0 (row_of f)
+place_told (Ok i) = refl
+place_told (Err n) = refl
 
 -- a credit's value: a row past 40 bits is a value past 48
 module _ (k i : ℕ) where
@@ -73,10 +79,10 @@ module _ (c : Uplinked) (r k : ℕ) where
   credit_refused n e p = p ∙ ap packed_credit (sym e)
 
 -- the answer and the columns afterwards
-pub found_told : (f : Found) (r : ℕ) (c : Columns) (d : Done Found) → r ≡ packed (table_refusal f) 0 (row_of f) → told_place f c ≡ d → ◌≡◌ {A = Tabled} (tabled r c) (placed d)
-found_told f r c d e p = ap (λ x. tabled x c) e ∙ ap placed p
+pub found_told : (f : Found) (r : ℕ) (c : Columns) (d : Done Found) → r ≡ value_answer f → told_place f c ≡ d → ◌≡◌ {A = Tabled} (tabled r c) (placed d)
+found_told f r c d e p = ap (λ x. tabled x c) (e ∙ place_told f) ∙ ap placed p
 
 pub credit_told : (f : Uplinked) (r : ℕ) (c : Columns) (d : Done Uplinked) → r ≡ packed_credit f → told_credit f c ≡ d → ◌≡◌ {A = Tabled} (tabled r c) (credit_tabled d)
 credit_told f r c d e p = ap (λ x. tabled x c) e ∙ ap credit_tabled p
 
-pub ruleset answers = (shown_whole, shown_most, packed_as, frame_whole, frame_refused, form_whole, form_refused, place_found, place_refused, value_whole, value_most, credit_taken, credit_refused, found_told, credit_told)
+pub ruleset answers = (shown_whole, shown_most, packed_as, frame_whole, frame_refused, form_whole, form_refused, value_whole, value_most, credit_taken, credit_refused, found_told, credit_told)

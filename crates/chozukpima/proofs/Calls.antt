@@ -1,5 +1,5 @@
 -- The calls on messages: their branches are those of the definitions. Assumes nothing.
-use mathlib.Core.Path.{◌≡◌, sym, ap, ◌∙◌}
+use mathlib.Core.Path.{◌≡◌, refl, sym, ap, ◌∙◌}
 use mathlib.Core.List.{List}
 use Prim.Native.Nat.{ℕ}
 use lib.{Dec.eqb, ListN.length}
@@ -13,7 +13,7 @@ use Rattle.refusal.specs.{declared.Broken.Broken, declared.Refusal.Refusal, Numb
 use Rattle.writer.specs.Write.{Sent, sent, written, write_refusal, length_of}
 use Rattle.steps.specs.Called.{Answer, Called, called, arrive_on, begin_on}
 use Rattle.layout.specs.{Image.message_size, Image.message_image, Taken.message_at}
-use Rattle.chozukpima.specs.Packed.{packed, refused_with}
+use Rattle.chozukpima.specs.Packed.{packed, refused_with, value_answer}
 use Rattle.chozukpima.specs.Messages.{Filled, filled, told_into, got, ReadInto, put_by, write_returns}
 use Rattle.chozukpima.specs.Sessions.{Returned, returned, step_answer, arrive_returns, begin_returns}
 
@@ -43,12 +43,9 @@ module _ (p m d : List ℕ) (r : ℕ) where
         meant = λ _ b k. ap (λ x. got x lent) q ∙ ap (λ (x : Meaning). got (told_into x.told m) x.lent) (one_answer p d a b n k);
       }
 
-module _ (w : Result ℕ Refusal) (r : ℕ) where
-  pub written_whole : (k : ℕ) → w ≡ Ok k → r ≡ packed 0 0 k → r ≡ packed (write_refusal w) 0 (length_of w)
-  written_whole k e p = p ∙ ap (λ x. packed (write_refusal x) 0 (length_of x)) (sym e)
-
-  pub written_refused : (k : Refusal) → w ≡ Err k → r ≡ packed (number_of k) 0 0 → r ≡ packed (write_refusal w) 0 (length_of w)
-  written_refused k e p = p ∙ ap (λ x. packed (write_refusal x) 0 (length_of x)) (sym e)
+written_told : (w : Result ℕ Refusal) → value_answer w ≡ packed (write_refusal w) 0 (length_of w)
+written_told (Ok k) = refl
+written_told (Err k) = refl
 
 module _ (m d room : List ℕ) (r : ℕ) where
   pub write_short : (length m ≡ message_size → ⊥) → r ≡ refused_with 15 → ◌≡◌ {A = Filled} (filled r room) (write_returns m d room)
@@ -56,9 +53,9 @@ module _ (m d room : List ℕ) (r : ℕ) where
   write_short h e = ap (λ n. filled n room) e ∙ sym (simp (ne_eqb (length m) message_size h))
 
   pub write_whole : (x : Message) (w : Result ℕ Refusal) (after : List ℕ) → length m ≡ message_size → x ≡ message_at m → ◌≡◌ {A = Sent} (sent w after) (written x d room)
-      → r ≡ packed (write_refusal w) 0 (length_of w) → ◌≡◌ {A = Filled} (filled r after) (write_returns m d room)
+      → r ≡ value_answer w → ◌≡◌ {A = Filled} (filled r after) (write_returns m d room)
   unfolding write_returns
-  write_whole x w after l e p q = ap (λ n. filled n after) q ∙ ap put_by (p ∙ ap (λ y. written y d room) e) ∙ sym (simp (eq-eqb (length m) message_size l))
+  write_whole x w after l e p q = ap (λ n. filled n after) (q ∙ written_told w) ∙ ap put_by (p ∙ ap (λ y. written y d room) e) ∙ sym (simp (eq-eqb (length m) message_size l))
 
 -- a step on a session, of a message that has its length or not
 module _ (m lent d room : List ℕ) (r : ℕ) where
@@ -84,4 +81,4 @@ module _ (m lent d room : List ℕ) (r : ℕ) where
         ap (λ n. returned n after left) q ∙ ap (λ (c : Called). returned (step_answer c.answer) c.session c.room) (p ∙ ap (λ y. begin_on d y lent room) k)
         ∙ sym (simp (eq-eqb (length m) message_size l))
 
-pub ruleset calls = (told_refused, told_whole, read_short, read_whole, written_whole, written_refused, write_short, write_whole, arrive_short, begin_short, arrive_whole, begin_whole)
+pub ruleset calls = (told_refused, told_whole, read_short, read_whole, write_short, write_whole, arrive_short, begin_short, arrive_whole, begin_whole)

@@ -1,11 +1,10 @@
 // Messages where they lie: read from a payload, written as a frame.
 ghost use Rattle.std.specs.Prelude.{◌≡◌, length};
-ghost use Rattle.writer.specs.Write.{write_refusal, length_of};
 ghost use Rattle.layout.specs.Image.{message_size};
 ghost use Rattle.chozukpima.specs.Messages.{Filled, filled, told_into, got, ReadInto, Kept, write_returns};
-ghost use Rattle.chozukpima.specs.{Code.Stands.Stands, Packed.packed};
+ghost use Rattle.chozukpima.specs.Code.Stands.{Stands};
 
-use crate::answer::{pack, refuse};
+use crate::answer::{pack, refuse, value_answer};
 use record::Counted;
 use refusal::{Broken, Refusal};
 
@@ -42,14 +41,5 @@ pub fn chz_write(message: &[u8], lent: &[u8], room: &mut [u8]) -> u64
     if message.len() != layout::SIZE {
         return refuse(Refusal::Invalid);
     }
-    written(writer::write(layout::message_in(message), lent, room))
-}
-
-fn written(w: Result<usize, Refusal>) -> u64
-    ensures { result ≡ packed (write_refusal w) 0 (length_of w) }
-{
-    match w {
-        Ok(n) => pack(0, 0, n),
-        Err(r) => refuse(r),
-    }
+    value_answer(writer::write(layout::message_in(message), lent, room))
 }

@@ -2,27 +2,16 @@
 ghost use Rattle.std.specs.Prelude.{◌≡◌, ◌≤◌, ◌<◌};
 ghost use Rattle.trace.specs.Record.{start_of};
 ghost use Rattle.chozukpima.specs.{Messages.Filled, Messages.filled};
-ghost use Rattle.chozukpima.specs.Traces.{wrote_answer, trace_start_returns, open_answer, Timed, timed, record_returns, entry_answer, Advanced, advanced, recorded_returns};
+ghost use Rattle.chozukpima.specs.Traces.{trace_start_returns, open_answer, Timed, timed, record_returns, entry_answer, Advanced, advanced, recorded_returns};
 
-use crate::answer::{pack, refuse};
-use refusal::Refusal;
+use crate::answer::{pack, refuse, value_answer};
 use trace::Entry;
-
-#[tactic(auto, using(crate::proofs::Tracing::wrote_refused))]
-fn wrote_answer(w: Result<usize, Refusal>) -> u64
-    ensures { result ≡ wrote_answer w }
-{
-    match w {
-        Ok(length) => pack(0, 0, length),
-        Err(r) => refuse(r),
-    }
-}
 
 // The start of a trace, at the start of the room; 20.
 pub fn chz_trace_start(room: &mut [u8]) -> u64
     ensures { ◌≡◌ {A = Filled} (filled result room.new) (trace_start_returns room.old) }
 {
-    wrote_answer(trace::write_start(room))
+    value_answer(trace::write_start(room))
 }
 
 // A record, at the start of the room; its gap is added to the time; 34, 25, 35, 20.
@@ -43,10 +32,7 @@ pub fn chz_record(time: &mut u64, gap: u64, station: u64, frame: &[u8], room: &m
 pub fn chz_trace_open(bytes: &[u8]) -> u64
     ensures { result ≡ open_answer (start_of bytes.now) }
 {
-    match trace::start(bytes) {
-        Ok(n) => pack(0, 0, n.next),
-        Err(r) => refuse(r),
-    }
+    value_answer(trace::start(bytes).map(|n| n.next))
 }
 
 // A record at the start of the bytes; its gap is added to the time; 33, 32, 34, 25, 35.
