@@ -8,7 +8,7 @@ use refusal::Refusal;
 // The greatest value of 48 bits.
 pub const MOST_VALUE: usize = 0xFFFF_FFFF_FFFF;
 
-#[tactic(auto, using(crate::proofs::Answers::packed_as))]
+#[tactic(auto, using(crate::proofs::Answers::shown_min), unfolding(crate::specs::Packed::packed))]
 pub fn pack(refusal: u8, happened: u8, value: usize) -> u64
     ensures { result ≡ packed refusal happened value }
 {

@@ -18,6 +18,7 @@ const COPY: u8 = 18;
 const MOST_ROW: usize = 0xFF_FFFF_FFFF;
 
 // A credit's value. A row past 40 bits, whose product may wrap, has the greatest value, as `pack` would show it.
+#[tactic(auto, using(crate::proofs::Answers::shown_past), unfolding(crate::specs::Packed::credit_value))]
 fn credit_value(hearers: u32, row: usize) -> usize
     ensures { shown result ≡ shown (credit_value hearers row) }
 {
@@ -36,6 +37,7 @@ fn kind_number(kind: Kind) -> u8
     }
 }
 
+#[tactic(auto, unfolding(crate::specs::Packed::credit_value, crate::specs::Packed::packed))]
 fn credit_answer(credit: Result<Credit, Refusal>) -> u64
     ensures { result ≡ packed (credit_refusal_of credit) (credit_kind credit) (credit_value (hearers_of credit) (credit_row_of credit)) }
 {
