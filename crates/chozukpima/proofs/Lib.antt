@@ -2,5 +2,4 @@ pub mod Answers
 pub mod Calls
 pub mod Kept
 pub mod Settled
-pub mod Queues
 pub mod Tracing

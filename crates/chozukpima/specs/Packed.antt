@@ -1,6 +1,7 @@
 -- One number answers every call: bits 0 to 7 the refusal (0: done), 8 to 15 what happened, 16 to 63 the value: a length, a count, a row, a credit's
 -- hearers and row, or the place for refusals 4 to 10. A value past 48 bits, which no memory has room for, shows as the greatest.
-use Rattle.std.specs.Prelude.{ℕ, ◌+◌, ◌*◌, ◌/◌, ◌%◌, leb, Ok, Err}
+use Rattle.std.specs.Prelude.{ℕ, ◌+◌, ◌*◌, ◌/◌, ◌%◌, leb, Result, Ok, Err}
+use Rattle.refusal.specs.{Number.number_of, declared.Refusal.Refusal}
 use Rattle.octets.specs.Choice.{either}
 use Rattle.element.specs.Form as Form
 use Rattle.frame.specs.Frame.{Framed, frame_refusal, used_of}
@@ -30,6 +31,11 @@ answer_value a = a / 65536
 -- a call that is refused without a place
 abbrev pub refused_with : ℕ → ℕ
 refused_with n = packed n 0 0
+
+-- a call that answers a value alone: a length, a row, a place
+abbrev pub value_answer : Result ℕ Refusal → ℕ
+value_answer (Ok n) = packed 0 0 n
+value_answer (Err r) = refused_with (number_of r)
 
 abbrev pub frame_answer : Framed → ℕ
 frame_answer f = packed (frame_refusal f) 0 (used_of f)

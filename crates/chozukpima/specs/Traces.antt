@@ -6,11 +6,10 @@ use Rattle.refusal.specs.Number.{number_of}
 use Rattle.groups.specs.declared.Number.{Number}
 use Rattle.trace.specs.declared.Entry.{Entry}
 use Rattle.trace.specs.{Record.entry_of, Write.record_in, Write.start_in}
-use Rattle.chozukpima.specs.{Packed.packed, Packed.refused_with, Messages.Filled, Messages.filled}
+use Rattle.chozukpima.specs.{Packed.packed, Packed.refused_with, Packed.value_answer, Messages.Filled, Messages.filled}
 
 abbrev pub wrote_answer : Result ℕ Refusal → ℕ
-wrote_answer (Ok n) = packed 0 0 n
-wrote_answer (Err k) = refused_with (number_of k)
+wrote_answer w = value_answer w
 
 -- the start of a trace, written and read
 unfoldable pub trace_start_returns : List ℕ → Filled

@@ -17,6 +17,7 @@ fn step_answer(a: Result<Done, Refusal>) -> u64
 }
 
 // A message arrives: what happened, and how many bytes of reply stand in the room; 15, then 17, 18, 16 or 19, 20.
+#[tactic(auto, unfolding(crate::specs::Sessions::arrive_returns))]
 pub fn chz_arrive(
     session: &mut [u8],
     message: &[u8],
@@ -37,6 +38,7 @@ pub fn chz_arrive(
 }
 
 // The centre begins an operation: its message stands in the room under the ID issued; 15 for an image, 17, 18, 19, 15, 20.
+#[tactic(auto, unfolding(crate::specs::Sessions::begin_returns))]
 pub fn chz_begin(session: &mut [u8], message: &[u8], lent: &[u8], room: &mut [u8]) -> u64
     ensures { ◌≡◌ {A = Returned} (returned result session.new room.new)
         (begin_returns session.old message.now lent.now room.old) }

@@ -4,7 +4,7 @@ ghost use Rattle.element.specs.Form.{walk_of};
 ghost use Rattle.frame.specs.Frame.{framed_of};
 ghost use Rattle.chozukpima.specs.Packed.{frame_answer, form_answer};
 
-use crate::answer::pack;
+use crate::answer::{pack, refuse};
 use refusal::Broken;
 
 // A frame at the start of the bytes: how many bytes it takes; 1, 2, 3.
@@ -13,7 +13,7 @@ pub fn chz_frame(bytes: &[u8]) -> u64
 {
     match frame::read(bytes) {
         Ok(n) => pack(0, 0, frame::HEAD + n),
-        Err(e) => pack(e.number(), 0, 0),
+        Err(r) => refuse(r),
     }
 }
 

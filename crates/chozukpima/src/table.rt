@@ -1,11 +1,11 @@
 // The meter table's calls.
 ghost use Rattle.std.specs.Prelude.{◌≡◌};
-ghost use Rattle.meters.specs.Answers.{table_refusal, row_of, credit_refusal_of, credit_row_of, hearers_of};
+ghost use Rattle.meters.specs.Answers.{credit_refusal_of, credit_row_of, hearers_of};
 ghost use Rattle.meters.specs.Columns.{find_on, enrol_on, withdraw_on, uplink_on};
 ghost use Rattle.meters.specs.Lent.{found_in, enrolled_in, withdrawn_in, credited_in, StillEnrols, StillWithdraws, StillCredits};
 ghost use Rattle.chozukpima.specs.Packed.{shown, packed, kind_number, credit_kind, credit_value, Tabled, tabled, placed, credit_tabled};
 
-use crate::answer::{MOST_VALUE, pack, refuse};
+use crate::answer::{MOST_VALUE, pack, refuse, value_answer};
 use meters::{Credit, Credits, Enrols, Finds, Kind, Withdraws};
 use refusal::Refusal;
 
@@ -17,16 +17,8 @@ const COPY: u8 = 18;
 // Above it a row has no room beside the hearers.
 const MOST_ROW: usize = 0xFF_FFFF_FFFF;
 
-fn place_answer(found: Result<usize, Refusal>) -> u64
-    ensures { result ≡ packed (table_refusal found) 0 (row_of found) }
-{
-    match found {
-        Ok(i) => pack(0, 0, i),
-        Err(r) => refuse(r),
-    }
-}
-
 // A credit's value. A row past 40 bits, whose product may wrap, has the greatest value, as `pack` would show it.
+#[tactic(auto, using(crate::proofs::Answers::shown_past), unfolding(crate::specs::Packed::credit_value))]
 fn credit_value(hearers: u32, row: usize) -> usize
     ensures { shown result ≡ shown (credit_value hearers row) }
 {
@@ -45,6 +37,7 @@ fn kind_number(kind: Kind) -> u8
     }
 }
 
+#[tactic(auto, unfolding(crate::specs::Packed::credit_value, crate::specs::Packed::packed))]
 fn credit_answer(credit: Result<Credit, Refusal>) -> u64
     ensures { result ≡ packed (credit_refusal_of credit) (credit_kind credit) (credit_value (hearers_of credit) (credit_row_of credit)) }
 {
@@ -58,7 +51,7 @@ fn credit_answer(credit: Result<Credit, Refusal>) -> u64
 pub fn chz_find(table: &Finds, meter: u64) -> u64
     ensures { ◌≡◌ {A = Tabled} (tabled result (found_in table.now)) (placed (find_on (found_in table.now) meter)) }
 {
-    place_answer(table.find(meter))
+    value_answer(table.find(meter))
 }
 
 // Takes the lowest free row for a meter; 24, 22, 23.
@@ -66,7 +59,7 @@ pub fn chz_enrol(table: &mut Enrols, meter: u64, short: u16, counter: u32) -> u6
     ensures answer { ◌≡◌ {A = Tabled} (tabled result (enrolled_in table.new)) (placed (enrol_on (enrolled_in table.old) meter short counter)) }
     ensures lent { StillEnrols table.old table.new }
 {
-    place_answer(table.enrol(meter, short, counter))
+    value_answer(table.enrol(meter, short, counter))
 }
 
 // Frees the meter's row; 24, 21.
@@ -74,7 +67,7 @@ pub fn chz_withdraw(table: &mut Withdraws, meter: u64) -> u64
     ensures answer { ◌≡◌ {A = Tabled} (tabled result (withdrawn_in table.new)) (placed (withdraw_on (withdrawn_in table.old) meter)) }
     ensures lent { StillWithdraws table.old table.new }
 {
-    place_answer(table.withdraw(meter))
+    value_answer(table.withdraw(meter))
 }
 
 // Credits a packet: new or a copy, how many stations heard it, and the meter's row; 24, 25, 21, 26.
