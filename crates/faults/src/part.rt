@@ -97,6 +97,7 @@ pub fn maybe_version(x: Maybe<Version>) -> bool
     x.here | ((v.major == 0) & ((v.minor == 0) & (v.patch == 0)))
 }
 
+// A position and none: of one function, lent the test of a real, no more than the three fields would be left.
 fn is_position(x: Position) -> bool
     ensures { result ≡ is_position x }
 {

@@ -82,6 +82,7 @@ fn is_body(h: Shape) -> bool
     matches!(h, Shape::Plain | Shape::Text)
 }
 
+// The shapes by name, each as the definition of that name: one function that is lent the shape would be `==`, and no plainer.
 pub fn is_text(h: Shape) -> bool
     ensures { result ≡ is_text h }
 {

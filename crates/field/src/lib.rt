@@ -90,6 +90,7 @@ struct Release {
     number: u16,
 }
 
+// A call for each kind: one that is lent the kind's reader and what a value is would be no plainer.
 // Of each call, p is the place of the field's value: 0 where its key is missing, 1 where its key stands more than once.
 
 // A whole number from minus lo to hi, as 64 bits.

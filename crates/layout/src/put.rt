@@ -78,6 +78,7 @@ fn put_words(d: &mut [u8], at: usize, x: u64, y: u64)
     put_word(d, at + 8, y);
 }
 
+// Reals and marks lie at other distances, so one function for both would be lent the distance and the put: no plainer.
 fn put_reals(d: &mut [u8], at: usize, x: f64, y: f64, z: f64)
     requires { at ≤ 80 }
     ensures { d.new ≡ lay (Stretch.real (at + 16) z) (lay (Stretch.real (at + 8) y) (lay (Stretch.real at x) d.old)) }

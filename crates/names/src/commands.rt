@@ -1,5 +1,6 @@
 // The commands, a function for each length, the names in the order of the definitions. x is the number of a name's first
-// two, four or eight bytes, the most that it has, and y that of the others. Each answers the command's number.
+// two, four or eight bytes, the most that it has, and y that of the others. Each function is the table of its length: one
+// function for all would be the same tables in another place. Each answers the command's number.
 ghost use Rattle.std.specs.Prelude.{◌≡◌};
 ghost use Rattle.names.specs.{Names.commands, Code.Numbers.place_by};
 

@@ -105,6 +105,7 @@ fn named_at(s: &[u8], p: usize) -> u8
     names::command_of(&s[from..to])
 }
 
+// Heads of maps and of texts differ in shape, base and bound: one function that is lent all three would be no plainer.
 // The head of a map's lead byte. Below 90, as in most messages, no bytes of length follow.
 #[tactic(auto, using(crate::proofs::Opening::heads))]
 fn map_head(b: u8) -> Head

@@ -1,4 +1,4 @@
-// Two's complement: a signed number of 64 or 32 bits and its bits.
+// Two's complement: a signed number of 64 or 32 bits and its bits. Each is the library's call under the definition's name; one over the width would say no more.
 ghost use Rattle.std.specs.Prelude.{◌≡◌};
 ghost use Rattle.octets.specs.Signed.{bits_of, signed_of};
 

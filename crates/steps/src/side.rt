@@ -11,6 +11,7 @@ pub enum Side {
 }
 
 impl Side {
+    // Three short tables, one for each thing that a side has: as one, they would be a table of tables.
     // Where its IDs stand, one behind the other.
     pub fn ids(self) -> usize
         ensures is { result ≡ side_ids self }

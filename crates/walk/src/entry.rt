@@ -75,6 +75,7 @@ fn sized_in(e: u8) -> Head
     }
 }
 
+// As `lead` has them: two ranges each, no plainer as one function.
 #[tactic(auto, using(crate::proofs::Entries::texts))]
 pub fn text_in(e: u8) -> bool
     ensures { result ≡ is_text (head_in e).shape }

@@ -44,6 +44,7 @@ pub fn two_to(k: u8) -> usize
     1 << k.min(4)
 }
 
+// Texts and maps, each as the definition of that name: two ranges, and one function that is lent them would be no plainer.
 #[tactic(auto, using(crate::proofs::Leads::texts))]
 pub fn is_text(b: u8) -> bool
     ensures { result ≡ is_text (head_of b).shape }

@@ -169,7 +169,7 @@ fn held(s: &[u8], at: usize, count: usize, left: usize, z: usize) -> Result<Next
     values(s, at + 1, count + 1, left - 1, z - short::ARRAY)
 }
 
-// The value behind a key of y bytes; 0 where there is no such key.
+// The value behind a key of y bytes; 0 where there is no such key, as `short` tells it: an enum was counted there, and costs too much.
 #[tactic(auto, using(crate::proofs::Quick::afters))]
 fn quick_after(s: &[u8], at: usize, count: usize, left: usize, y: usize) -> usize
     requires { (Bounded (length s.now) left at (count + 1) y) × (y ≤ 32) }
