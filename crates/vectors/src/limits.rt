@@ -68,7 +68,11 @@ impl Count {
     fn promise(&mut self, rt: &impl Print, room: &mut [u8; 65536]) -> io::Result<()> {
         filled(room, 0xDD, 4, 0xFFFF_FFFF);
         let cut = refuses(&room[..27], Refusal::Cut, 27);
-        self.judge(rt, cut, "array of 2^32-1 parts in five bytes: refusal 4 behind them")
+        self.judge(
+            rt,
+            cut,
+            "array of 2^32-1 parts in five bytes: refusal 4 behind them",
+        )
     }
 
     fn frames(&mut self, rt: &impl Print, room: &mut [u8; 65536]) -> io::Result<()> {

@@ -87,7 +87,12 @@ impl Tally {
     pub fn line(&mut self, rt: &impl Print, s: &[u8], room: &mut [u8]) -> io::Result<()> {
         self.lines = self.lines.saturating_add(1);
         let Some(said) = read(s) else {
-            return self.judge(rt, false, "words, HEX, elements, kind and value, at least", 3);
+            return self.judge(
+                rt,
+                false,
+                "words, HEX, elements, kind and value, at least",
+                3,
+            );
         };
         let Some(longer) = payload::with_value(room, text::word(s, 0)) else {
             return self.judge(rt, false, "bytes in hex, at least", 1);
