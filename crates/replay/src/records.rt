@@ -7,12 +7,10 @@ use std::io::{Read, Stderr, Write};
 // The sessions of 64 stations.
 const SESSIONS: usize = 23552;
 
-// The bytes at hand; whether the trace's first number was read, the sum of the gaps and the count of records since.
+// The sum of the gaps since the trace's first number, none before it, and the count of records.
 #[derive(Clone, Copy)]
-struct Playing {
-    hand: Hand,
-    started: bool,
-    sum: u64,
+struct Played {
+    sum: Option<u64>,
     records: u64,
 }
 
@@ -26,65 +24,46 @@ pub fn play_all<R: Read, W: Write>(
     table: &mut Credits,
 ) -> Result<(), Failed> {
     let sessions = &mut [0; SESSIONS];
-    let s = &mut Playing {
-        hand: Hand::empty(),
-        started: false,
-        sum: 0,
+    let mut hand = Hand::empty();
+    let mut played = Played {
+        sum: None,
         records: 0,
     };
     for turn in 0..u64::MAX {
-        if s.hand.ended {
+        if hand.ended {
             break;
         }
-        play(trace, output, held, out, sessions, table, s)?;
-        crate::progress::tell(told, turn, s.records);
+        let took = play(held, out, hand, sessions, table, &mut played);
+        hand.turned(trace, output, held, out, took)?;
+        crate::progress::tell(told, turn, played.records);
     }
-    s.hand.flushed(output, out)
+    hand.flushed(output, out)
 }
 
-// One turn over the trace.
-fn play<R: Read, W: Write>(
-    trace: &mut R,
-    output: &mut W,
-    held: &mut [u8],
-    out: &mut [u8],
-    sessions: &mut [u8; SESSIONS],
-    table: &mut Credits,
-    s: &mut Playing,
-) -> Result<(), Failed> {
-    let h = s.hand;
-    let took = turn(held, out, s.started, &mut s.sum, sessions, table, h);
-    s.records = count(s.records, s.started, took.used);
-    s.started = s.started | (took.used != 0);
-    s.hand.turned(trace, output, held, out, took)
-}
-
-// The start of the trace, then record by record.
-fn turn(
+// One turn over the bytes at hand: the start of the trace, then record by record.
+fn play(
     held: &[u8],
     out: &mut [u8],
-    started: bool,
-    sum: &mut u64,
+    hand: Hand,
     sessions: &mut [u8; SESSIONS],
     table: &mut Credits,
-    h: Hand,
+    played: &mut Played,
 ) -> Took {
-    let filled = h.filled.min(out.len());
-    let bytes = hand::part(held, h.from, h.to);
-    if !started {
-        return day::start(bytes, h.last, &mut out[filled..]);
+    let bytes = hand::part(held, hand.from, hand.to);
+    let filled = hand.filled.min(out.len());
+    let room = &mut out[filled..];
+    let Some(mut sum) = played.sum else {
+        let took = day::start(bytes, hand.last, room);
+        if took.used != 0 {
+            played.sum = Some(0);
+        }
+        return took;
+    };
+    let took = day::turn(bytes, hand.last, &mut sum, sessions, table, room);
+    played.sum = Some(sum);
+    if took.used != 0 {
+        // There is no trace of 2^64 records.
+        played.records = played.records.saturating_add(1);
     }
-    day::turn(bytes, h.last, sum, sessions, table, &mut out[filled..])
-}
-
-// Records so far; there is no trace of 2^64 of them.
-fn count(records: u64, started: bool, used: usize) -> u64 {
-    if !started | (used == 0) {
-        return records;
-    }
-    if records < u64::MAX {
-        records + 1
-    } else {
-        records
-    }
+    took
 }

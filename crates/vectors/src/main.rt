@@ -29,7 +29,8 @@ fn main(rt: HostRuntime) -> io::Result<()> {
     limits::run(&rt, &mut room)
 }
 
-// Reads until the buffer is full or the input ends, and returns how many bytes now stand at its start.
+// Reads until the buffer is full or the input ends, and returns how many bytes now stand at its start. A read takes as many bytes as it gets, so the loop
+// ends by the input, and `for` has no count of turns to go by.
 fn read_full<R: Read>(reader: &mut R, buf: &mut [u8]) -> io::Result<usize>
     ensures { IfOk result (λ n. n ≤ length buf.new) }
 {
