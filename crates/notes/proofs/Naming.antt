@@ -19,7 +19,9 @@ use Rattle.names.specs.Names.{command_of}
 use Rattle.field.specs.{Judge.text_of, Code.At.shallow_at}
 use Rattle.walk.specs.Code.Short.{Announces}
 use Rattle.message.specs.Code.Cells.{numbered, command_at}
-use Rattle.notes.specs.Code.Noted.{IsTextAt}
+use Rattle.std.specs.Prelude.{Result, Ok, Err}
+use Rattle.refusal.specs.declared.Refusal.{Refusal, TheVariants.NoCommand, TheVariants.UnknownCommand}
+use Rattle.notes.specs.Code.Noted.{commanded, IsTextAt}
 use Rattle.notes.proofs.Opening.{is_text_lem}
 
 -- behind the second byte the number is that of the text
@@ -28,6 +30,11 @@ unfolding command_at
 by_text s zero h = absurd (omega arith)
 by_text s (suc zero) h = absurd (omega arith)
 by_text s (suc (suc p)) h = refl
+
+-- what a number of no command tells
+none_told : (n : ℕ) → n ≡ 25 → Err NoCommand ≡ commanded n
+unfolding commanded
+none_told n e = rw e
 
 -- the class of a text's shape is text
 text_class : (c : Class) → shape_of c ≡ Text → c ≡ Class.text
@@ -74,25 +81,25 @@ module _ (s : List ℕ) (p : ℕ) where
   shallow_text h (Holds q n true) e = simp (lt-ltb p (length s) h, e)
   shallow_text h (Holds q n false) e = simp (lt-ltb p (length s) h, e)
 
-  pub number_early : p < 2 → 25 ≡ command_at s p
-  unfolding command_at
+  pub number_early : p < 2 → Err NoCommand ≡ commanded (command_at s p)
+  unfolding command_at commanded
   number_early h = go p h
     where
-      go : (p : ℕ) → p < 2 → 25 ≡ command_at s p
+      go : (p : ℕ) → p < 2 → Err NoCommand ≡ commanded (command_at s p)
       go zero h = refl
       go (suc zero) h = refl
       go (suc (suc p)) h = absurd (omega arith)
 
-  pub number_past : 2 ≤ p → length s ≤ p → 25 ≡ command_at s p
+  pub number_past : 2 ≤ p → length s ≤ p → Err NoCommand ≡ commanded (command_at s p)
   unfolding shallow_at
   number_past g h =
       let t : text_of (shallow_at s p) ≡ none = simp (le-ltb p (length s) h) in
-      sym (by_text s p g ∙ ap numbered t)
+      none_told (command_at s p) (by_text s p g ∙ ap numbered t)
 
-  pub number_other : 2 ≤ p → p < length s → (m : Bool) → m ≡ is_text (head_of (get_or s p 0)).shape → m ≡ false → 25 ≡ command_at s p
+  pub number_other : 2 ≤ p → p < length s → (m : Bool) → m ≡ is_text (head_of (get_or s p 0)).shape → m ≡ false → Err NoCommand ≡ commanded (command_at s p)
   unfolding head_of
   number_other g h m f k =
-      sym (by_text s p g ∙ ap numbered (shallow_text h (span_of s p) refl ∙ none_to (span_of s p)))
+      none_told (command_at s p) (by_text s p g ∙ ap numbered (shallow_text h (span_of s p) refl ∙ none_to (span_of s p)))
     where
       none_to : (x : Span) → text_of (leaf_to s p x) ≡ none
       none_to Cut = refl
@@ -106,9 +113,9 @@ module _ (s : List ℕ) (p : ℕ) where
     is_shape : h.shape ≡ Text
     is_shape = ap (λ (q : Head). q.shape) y.is ∙ i.text
 
-    pub number_cut : length s - p - 1 < h.wide → 25 ≡ command_at s p
+    pub number_cut : length s - p - 1 < h.wide → Err NoCommand ≡ commanded (command_at s p)
     unfolding span_of
-    number_cut l = sym (by_text s p i.behind ∙ ap numbered (shallow_text i.there Cut (rw (← y.is) (simp (lt-leb (p + 1 + h.wide) (length s) (omega (arith, i.there)))))))
+    number_cut l = none_told (command_at s p) (by_text s p i.behind ∙ ap numbered (shallow_text i.there Cut (rw (← y.is) (simp (lt-leb (p + 1 + h.wide) (length s) (omega (arith, i.there)))))))
 
     module _ (g : h.wide ≤ length s - p - 1) (x : ℕ) (f : x ≡ if_there s (p + 1) h.wide (big_at s (p + 1) h.wide)) where
       span_here : span_of s p ≡ body_of (length s) (p + 1 + h.wide) (h.more + x)
@@ -118,12 +125,12 @@ module _ (s : List ℕ) (p : ℕ) where
           let v : x ≡ big_at s (p + 1) h.wide = f ∙ simp (le-leb h.wide 8 (omega (arith, y.wide)), j) in
           rw (← y.is) (simp (j, is_shape, ← v))
 
-      pub number_lacking : length s - (p + 1 + h.wide) < h.more + x → 25 ≡ command_at s p
+      pub number_lacking : length s - (p + 1 + h.wide) < h.more + x → Err NoCommand ≡ commanded (command_at s p)
       unfolding body_of
       number_lacking l =
-          sym (by_text s p i.behind ∙ ap numbered (shallow_text i.there Cut (span_here ∙ simp (lt-leb (h.more + x) (length s - (p + 1 + h.wide)) l))))
+          none_told (command_at s p) (by_text s p i.behind ∙ ap numbered (shallow_text i.there Cut (span_here ∙ simp (lt-leb (h.more + x) (length s - (p + 1 + h.wide)) l))))
 
-      pub number_named : (r : ℕ) → h.more + x ≤ length s - (p + 1 + h.wide)
+      number_named : (r : ℕ) → h.more + x ≤ length s - (p + 1 + h.wide)
           → r ≡ command_of (take (p + 1 + h.wide + (h.more + x) - (p + 1 + h.wide)) (drop (p + 1 + h.wide) s)) → r ≡ command_at s p
       unfolding body_of
       number_named r l e =
@@ -133,4 +140,18 @@ module _ (s : List ℕ) (p : ℕ) where
           let t : text_of (leaf_to s p (Ends q)) ≡ some (take (q - (p + 1 + h.wide)) (drop (p + 1 + h.wide) s)) = rw (c, ← y.is) in
           e ∙ sym (by_text s p i.behind ∙ ap numbered (shallow_text i.there (Ends q) sp ∙ t))
 
-pub ruleset namings = (number_early, number_past, number_other, text_at, number_cut, number_lacking, number_named)
+      module _ (r : ℕ) (l : h.more + x ≤ length s - (p + 1 + h.wide)) (e : r ≡ command_of (take (p + 1 + h.wide + (h.more + x) - (p + 1 + h.wide)) (drop (p + 1 + h.wide) s))) where
+        pub named_known : r < 24 → Ok r ≡ commanded (command_at s p)
+        unfolding commanded
+        named_known z = rw (← number_named r l e) (simp (lt-ltb r 24 z))
+
+        pub named_other : 24 ≤ r → r ≤ 24 → Err UnknownCommand ≡ commanded (command_at s p)
+        unfolding commanded
+        named_other z y =
+            let v : r ≡ 24 = omega arith in
+            rw (← number_named r l e, v)
+
+-- by the place, and by the text that begins there
+pub ruleset places = (number_early, number_past, number_other, text_at)
+
+pub ruleset namings = (number_cut, number_lacking, named_known, named_other)

@@ -9,9 +9,10 @@ ghost use Rattle.octets.specs.{Number.big_at, Number.if_there, Size.is_size};
 ghost use Rattle.element.specs.Lead.{head_of};
 ghost use Rattle.walk.specs.Code.Short.{Announces};
 ghost use Rattle.message.specs.Code.Cells.{command_at};
-ghost use Rattle.notes.specs.Code.Noted.{noted_of, opened_of, BeginsMap, IsTextAt};
+ghost use Rattle.notes.specs.Code.Noted.{noted_of, opened_of, commanded, BeginsMap, IsTextAt};
 
 use element::{Head, Next, Shape};
+use names::numbers::COMMANDS;
 use pass::{broken, pass_pairs};
 use refusal::{Broken, Refusal};
 
@@ -64,45 +65,46 @@ fn opened_map(s: &[u8]) -> Noted
     pass_pairs(s, from, n)
 }
 
-// Instead of a command's number: there is no one text. One less is a text that names none.
-pub const NO_TEXT: u8 = 25;
-
-// The command's number by the place of its text.
-#[tactic(auto, using(crate::proofs::Naming::namings))]
-pub fn command_at(s: &[u8], place: u16) -> u8
-    ensures { result ≡ command_at s.now place }
+// The command's number by the place of its text; refused with 11 where there is no one text, and with 12 where the text names none.
+#[tactic(auto, using(crate::proofs::Naming::places))]
+pub fn command_at(s: &[u8], place: u16) -> Result<u8, Refusal>
+    ensures { result ≡ commanded (command_at s.now place) }
 {
     let p = usize::from(place);
     if p < 2 {
-        return NO_TEXT;
+        return Err(Refusal::NoCommand);
     }
     if s.len() <= p {
-        return NO_TEXT;
+        return Err(Refusal::NoCommand);
     }
     let b = s[p];
     if walk::lead::is_text(b) {
         return named_at(s, p);
     }
-    NO_TEXT
+    Err(Refusal::NoCommand)
 }
 
 // The same of a text that stands there: its bytes, where they are all there.
 #[tactic(auto, using(crate::proofs::Naming::namings))]
-fn named_at(s: &[u8], p: usize) -> u8
+fn named_at(s: &[u8], p: usize) -> Result<u8, Refusal>
     requires { IsTextAt s.now p }
-    ensures { result ≡ command_at s.now p }
+    ensures { result ≡ commanded (command_at s.now p) }
 {
     let Head { wide, more, .. } = text_head(s[p]);
     if s.len() - p - 1 < wide {
-        return NO_TEXT;
+        return Err(Refusal::NoCommand);
     }
     let from = p + 1 + wide;
     let n = more + (length_at(s, p + 1, wide) as usize);
     if s.len() - from < n {
-        return NO_TEXT;
+        return Err(Refusal::NoCommand);
     }
     let to = from + n;
-    names::command_of(&s[from..to])
+    let command = names::command_of(&s[from..to]);
+    if command < COMMANDS {
+        return Ok(command);
+    }
+    Err(Refusal::UnknownCommand)
 }
 
 // Heads of maps and of texts differ in shape, base and bound: one function that is lent all three would be no plainer.

@@ -3,8 +3,8 @@ use mathlib.Core.Path.{◌≡◌, refl, sym, ap, ap₂, subst, ◌∙◌}
 use mathlib.Core.{Bool.Bool, Bool.true, Bool.false, List.List}
 use Prim.Native.Nat.{ℕ, max, ◌+◌, ◌-◌, ◌/◌, ◌^◌, ◌≤◌, ◌<◌}
 use native.Mathlib.Omega.{arith}
-use lib.ListN.{length, get_or, replicate}
-use borrow.Author.Tests.{lt-ltb, le-ltb, eq-eqb, ne_eqb}
+use lib.{Dec.eqb, Dec.ltb, ListN.length, ListN.get_or, ListN.replicate}
+use borrow.Author.Tests.{lt-ltb, le-ltb, ne_eqb}
 use Rattle.std.specs.Prelude.{Result, Ok, Err, IsErrAnd}
 use Rattle.refusal.specs.declared.{Broken.Broken, Refusal.Refusal}
 use Rattle.refusal.specs.declared.Refusal.TheVariants as refusal
@@ -16,11 +16,11 @@ use Rattle.frame.proofs.Format.{fits}
 use Rattle.field.specs.Cell.{Cell}
 use Rattle.message.specs.{Fields.fields_of, Reading.gravest, Reading.crossed, Code.Cells.cells_at, Code.Cells.places_of, Code.Cells.command_at}
 use Rattle.notes.specs.declared.Noted.{Noted}
-use Rattle.notes.specs.Code.Noted.{broken_at, opened_of, noted_of}
+use Rattle.notes.specs.Code.Noted.{broken_at, opened_of, noted_of, commanded}
 use Rattle.bodies.specs.declared.Graded.{Graded}
 use Rattle.bodies.specs.Code.Read.{Read, look_for, read_of}
 use Rattle.record.specs.declared.{Message.Message, Counted.Counted}
-use Rattle.record.specs.{Record.message_of, Record.data_of, Reading.refusal_of, Reading.reading_unless, Code.Places.reading_at, Code.Places.answer_by, Code.Places.answer_at}
+use Rattle.record.specs.{Record.message_of, Record.data_of, Reading.Reading, Reading.reading_by, Reading.refusal_of, Reading.reading_unless, Code.Places.reading_at, Code.Places.answer_by, Code.Places.answer_at}
 use Rattle.record.specs.Meant.{Answered, breaks, refuses, answer_of, lent_size, Meant}
 use Rattle.record.proofs.Answered.{answer_meant}
 use Rattle.reading.specs.Code.Ways.{Enters, lent_after, fields_by, named_by, stepped_by}
@@ -71,19 +71,34 @@ module _ (s places : List ℕ) (c : ℕ) (g : Graded) (user : List ℕ) (eg : �
       ap₂ (λ (y : Message) (v : List ℕ). answer (Ok (record { count = count; message = y })) v) message_is a ∙ (rw z at by_worst)
 
 -- the command
-module _ (s places : List ℕ) (count : ℕ) (d : List ℕ) (k : ℕ) (is_number : k ≡ command_at s (get_or places 0 0)) where
-  pub named_known : (a : Answered) → k < 24 → a ≡ fields_by s places k count d → a ≡ named_by s places count d
-  unfolding named_by reading_at fields_by
-  named_known a h e = e ∙ sym (rw (← is_number) (simp (lt-ltb k 24 h)))
+module _ (s places : List ℕ) (count : ℕ) (d : List ℕ) (r : Result ℕ Refusal) (is_command : r ≡ commanded (command_at s (get_or places 0 0))) where
+  abbrev number : ℕ
+  number = command_at s (get_or places 0 0)
 
-  module _ (t : Told) (h : 24 ≤ k) where
-    pub named_other : k ≡ 24 → t ≡ refused refusal.UnknownCommand → answer t d ≡ named_by s places count d
-    unfolding named_by reading_at
-    named_other z e = ap (λ (y : Told). answer y d) e ∙ sym (rw (← is_number) (simp (le-ltb k 24 h, eq-eqb k 24 z)))
+  abbrev fields : ℕ → Answered
+  fields c = fields_by s places c count d
 
-    pub named_none : (k ≡ 24 → ⊥) → t ≡ refused refusal.NoCommand → answer t d ≡ named_by s places count d
-    unfolding named_by reading_at
-    named_none z e = ap (λ (y : Told). answer y d) e ∙ sym (rw (← is_number) (simp (le-ltb k 24 h, ne_eqb k 24 z)))
+  -- what is answered of a command, and of a refusal
+  abbrev told : Result ℕ Refusal → Answered
+  told (Ok c) = fields c
+  told (Err k) = answer (refused k) d
+
+  by_command : told (commanded number) ≡ named_by s places count d
+  unfolding named_by reading_at fields_by commanded
+  by_command = go (ltb number 24) (eqb number 24)
+    where
+      go : (x y : Bool) → told (either x (λ _. Ok number) (λ _. either y (λ _. Err refusal.UnknownCommand) (λ _. Err refusal.NoCommand)))
+          ≡ answer_of count d (either x (λ _. reading_by number (fields_of number) (cells_at (fields_of number) s places))
+          (λ _. either y (λ _. Reading.refused refusal.UnknownCommand) (λ _. Reading.refused refusal.NoCommand)))
+      go true y = refl
+      go false true = refl
+      go false false = refl
+
+  pub named_known : (a : Answered) (k : ℕ) → r ≡ Ok k → a ≡ fields_by s places k count d → a ≡ named_by s places count d
+  named_known a k h e = e ∙ ap told (sym h ∙ is_command) ∙ by_command
+
+  pub named_refused : (t : Told) (k : Refusal) → r ≡ Err k → t ≡ refused k → answer t d ≡ named_by s places count d
+  named_refused t k h e = ap (λ (y : Told). answer y d) e ∙ ap told (sym h ∙ is_command) ∙ by_command
 
 -- the walk's answer
 module _ (s places d : List ℕ) (x : Step) where
@@ -101,7 +116,7 @@ module _ (s places d : List ℕ) (x : Step) where
     unfolding stepped_by
     stepped_named a l e = e ∙ sym (rw h (simp (le-ltb n.at (length s) l)))
 
-pub ruleset ways = (fields_refused, fields_enter, fields_read, named_known, named_other, named_none, stepped_broken, stepped_more, stepped_named)
+pub ruleset ways = (fields_refused, fields_enter, fields_read, named_known, named_refused, stepped_broken, stepped_more, stepped_named)
 
 -- the walk and the places, together
 step_answer : (s d : List ℕ) (x : Step) → stepped_by s (places_of s) d x ≡ answer_by s d x

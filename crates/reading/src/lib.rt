@@ -8,7 +8,6 @@ ghost use Rattle.reading.specs.Framed.{MeantFramed};
 ghost use Rattle.reading.specs.Code.Ways.{Enters, lent_after, fields_by, named_by, stepped_by};
 
 use element::Next;
-use names::numbers::COMMANDS;
 use names::slots;
 use notes::Noted;
 use record::{Body, Counted};
@@ -89,14 +88,10 @@ fn named(s: &[u8], places: &[u16; 64], count: usize, d: &mut [u8]) -> Result<Cou
     requires { lent_size ≤ length d.old }
     ensures { ◌≡◌ {A = Answered} (record { told = result; lent = d.new }) (named_by s.now places.now count d.old) }
 {
-    let command = notes::command_at(s, places[slots::COMMAND]);
-    if command < COMMANDS {
-        return fields(s, places, command, count, d);
+    match notes::command_at(s, places[slots::COMMAND]) {
+        Ok(command) => fields(s, places, command, count, d),
+        Err(refusal) => refused(refusal),
     }
-    if command == COMMANDS {
-        return refused(Refusal::UnknownCommand);
-    }
-    refused(Refusal::NoCommand)
 }
 
 // The fields of a command that we know: the record, if none has a fault.

@@ -1,7 +1,8 @@
 -- The walk of a payload's outer element, and where the value of each key of its map stands.
 use mathlib.Core.{Path.◌≡◌, Bool.true, List.List}
-use Rattle.std.specs.Prelude.{ℕ, ◌≤◌, ◌<◌, length, get_or}
-use Rattle.refusal.specs.declared.{Refusal.Refusal, Refusal.TheVariants.Size}
+use Rattle.std.specs.Prelude.{ℕ, ◌≤◌, ◌<◌, Result, Ok, Err, length, get_or}
+use lib.Dec.{eqb, ltb}
+use Rattle.refusal.specs.declared.Refusal.{Refusal, TheVariants.Size, TheVariants.NoCommand, TheVariants.UnknownCommand}
 use Rattle.octets.specs.{Choice.either, Size.is_size}
 use Rattle.element.specs.declared.Shape.TheVariants.{Map, Text}
 use Rattle.element.specs.{Lead.head_of, Form.Role, Form.broken, Form.element_of, Code.At.body_from}
@@ -36,3 +37,7 @@ pub record IsTextAt (s : List ℕ) (p : ℕ) : Type 0 where
   pub behind : 2 ≤ p
   pub there : p < length s
   pub text : (head_of (get_or s p 0)).shape ≡ Text
+
+-- the command that `command_at` finds, or why there is none: no one text (11), or a text that names none (12)
+unfoldable pub commanded : ℕ → Result ℕ Refusal
+commanded n = either (ltb n 24) (λ _. Ok n) (λ _. either (eqb n 24) (λ _. Err UnknownCommand) (λ _. Err NoCommand))
