@@ -52,6 +52,7 @@ fn parts_into(s: &[u8], from: usize, n: usize, out: &mut [u8], to: usize) -> Opt
 }
 
 // The number at a place. Most are written in one byte, or in one behind CC; where two bytes are there, one test is enough for both.
+#[inline(always)]
 #[tactic(auto, using(crate::proofs::Octets::parts))]
 pub fn part_at(s: &[u8], at: usize) -> Option<Octet>
     ensures { result ≡ octet_at s.now at }
