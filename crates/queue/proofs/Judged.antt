@@ -1,21 +1,19 @@
 -- Whether a store is sound, by the code's tests: each place by its record, the IDs in walks over all places. Each law in the shape of a need of the code.
 -- Assumes nothing.
-use mathlib.Core.{Path.◌≡◌, Path.refl, Path.sym, Path.ap, Path.◌∙◌}
-use Rattle.std.specs.Prelude.{Option, Some, None}
+use mathlib.Core.{Path.◌≡◌, Path.sym, Path.ap, Path.◌∙◌}
+use Rattle.std.specs.Prelude.{Option}
 use mathlib.Core.Bool.{Bool, true, false, not, ◌&&◌, and-false}
 use mathlib.Core.List.{List}
 use Prim.Native.Nat.{ℕ, suc, ◌+◌, ◌-◌, ◌≤◌, ◌<◌}
 use native.Mathlib.Omega.{arith}
 use lib.{Dec.eqb, ListN.length, ListN.take, ListN.drop}
 use borrow.Author.Tests.{eq-eqb, ne_eqb, not-true, not-false}
-use Rattle.octets.specs.Choice.{either}
-use Rattle.octets.proofs.Ranges.{true_false}
 use Rattle.record.specs.{declared.Message.Message, Fits.fault_in}
 use Rattle.layout.specs.Taken.{number_at, dl_data_que_at, message_at}
 use Rattle.queue.specs.Entry.{Entry}
-use Rattle.queue.specs.Queue.{Queue, has_id, is_free, is_other, is_unlike, are_unlike}
+use Rattle.queue.specs.Queue.{Queue, has_id, is_other, is_unlike, are_unlike}
 use Rattle.queue.specs.Store.{slot_at, is_used, entry_in, queue_at, is_whole, are_whole, is_sound}
-use Rattle.queue.specs.Code.Slots.{entry_at, left}
+use Rattle.queue.specs.Code.Slots.{left}
 use Rattle.queue.proofs.{Unique.free_unlike, Slots.lent_is, Walks.left_at, Walks.left_none}
 
 -- a place

@@ -2,19 +2,18 @@
 -- Assumes nothing.
 use mathlib.Core.{Path.◌≡◌, Path.refl, Path.sym, Path.ap, Path.◌∙◌}
 use Rattle.std.specs.Prelude.{Option, Some, None, MatchOption}
-use mathlib.Core.Bool.{Bool, true, false, not}
+use mathlib.Core.Bool.{Bool, true, false}
 use mathlib.Core.List.{List, [], ◌∷◌}
 use Prim.Native.Nat.{ℕ, zero, suc, ◌+◌, ◌-◌, ◌*◌, ◌/◌, ◌≤◌, ◌<◌}
 use native.Mathlib.Nat.{zero-add}
 use native.Mathlib.Omega.{arith}
 use Rattle.std.specs.Simd.{first_chunks}
 use lib.{ListN.length, ListN.take, ListN.drop, ListN.get_or, Seq.drop-drop}
-use Rattle.octets.specs.Choice.{either}
 use Rattle.layout.specs.Taken.{number_at, dl_data_que_at}
 use Rattle.queue.specs.Entry.{Entry, goes_before}
-use Rattle.queue.specs.Queue.{has_id, is_free, first_place}
-use Rattle.queue.specs.Store.{slot_at, is_used, entry_in, places_from, queue_at}
-use Rattle.queue.specs.Code.{Rank.bits_before, Slots.passing, Slots.entry_at, Slots.left}
+use Rattle.queue.specs.Queue.{first_place}
+use Rattle.queue.specs.Store.{slot_at, entry_in, places_from, queue_at}
+use Rattle.queue.specs.Code.{Rank.bits_before, Slots.entry_at, Slots.left}
 use Rattle.queue.proofs.{Places.missed, Places.first_at, Reached.places_many, Reached.place_at}
 
 -- a place of the store is one of the parts that it falls into

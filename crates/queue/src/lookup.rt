@@ -40,7 +40,13 @@ fn better_of(q: &Store, i: usize, best: Option<usize>, wanted: Wanted) -> Option
         return best;
     }
     match best {
-        Some(b) => { if store::goes_before(slot(q, b), slot(q, i)) { best } else { Some(i) } }
+        Some(b) => {
+            if store::goes_before(slot(q, b), slot(q, i)) {
+                best
+            } else {
+                Some(i)
+            }
+        }
         None => Some(i),
     }
 }
