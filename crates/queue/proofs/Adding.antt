@@ -132,19 +132,22 @@ module _ (q : List ℕ) (m : Message) (d : List ℕ) where
   unfolding adds
   no_adding n = no_store q n _
 
-  module _ (long : length q ≡ 31488) where
-    pub downlink : (x : DlDataQue) → m.body ≡ Body.DlDataQue x → (a : Result ℕ Refusal) (o : List ℕ) → ◌≡◌ {A = Queued ℕ} (queued a o) (adds_fit q m x d)
+  module _ (long : length q ≡ 31488) (w : List ℕ) (same : w ≡ q) where
+    pub downlink : (x : DlDataQue) → m.body ≡ Body.DlDataQue x → (a : Result ℕ Refusal) (o : List ℕ) → ◌≡◌ {A = Queued ℕ} (queued a o) (adds_fit w m x d)
         → ◌≡◌ {A = Queued ℕ} (queued a o) (adds q m d)
     unfolding adds
-    downlink x e a o p = p ∙ sym (is_store q long _ ∙ ap (λ (b : Body). on_place (downlink_in b) (λ y. adds_fit q m y d) (refuses Invalid q)) e)
+    downlink x e a o p =
+        p ∙ ap (λ (l : List ℕ). adds_fit l m x d) same
+        ∙ sym (is_store q long _ ∙ ap (λ (b : Body). on_place (downlink_in b) (λ y. adds_fit q m y d) (refuses Invalid q)) e)
 
-    pub other : (b : Body) → m.body ≡ b → downlink_in b ≡ None → ◌≡◌ {A = Queued ℕ} (queued (Err Invalid) q) (adds q m d)
+    pub other : (b : Body) → m.body ≡ b → downlink_in b ≡ None → ◌≡◌ {A = Queued ℕ} (queued (Err Invalid) w) (adds q m d)
     unfolding adds
     other b e n =
-        sym (is_store q long _ ∙ ap (λ (v : Body). on_place (downlink_in v) (λ y. adds_fit q m y d) (refuses Invalid q)) e ∙ ap (λ (o : Option DlDataQue). on_place o (λ y. adds_fit q m y d) (refuses Invalid q)) n)
+        ap (λ (l : List ℕ). queued (Err Invalid) l) same
+        ∙ sym (is_store q long _ ∙ ap (λ (v : Body). on_place (downlink_in v) (λ y. adds_fit q m y d) (refuses Invalid q)) e ∙ ap (λ (o : Option DlDataQue). on_place o (λ y. adds_fit q m y d) (refuses Invalid q)) n)
 
     -- no command but one
-    pub another : (b : Body) → m.body ≡ b → ((x : DlDataQue) → b ≡ Body.DlDataQue x → ⊥) → ◌≡◌ {A = Queued ℕ} (queued (Err Invalid) q) (adds q m d)
+    pub another : (b : Body) → m.body ≡ b → ((x : DlDataQue) → b ≡ Body.DlDataQue x → ⊥) → ◌≡◌ {A = Queued ℕ} (queued (Err Invalid) w) (adds q m d)
     another b e n = other b e (go b n)
       where
         go : (b : Body) → ((x : DlDataQue) → b ≡ Body.DlDataQue x → ⊥) → downlink_in b ≡ None

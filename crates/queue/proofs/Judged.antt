@@ -1,23 +1,20 @@
 -- Whether a store is sound, by the code's tests: each place by its record, the IDs in walks over all places. Each law in the shape of a need of the code.
 -- Assumes nothing.
-use mathlib.Core.{Path.◌≡◌, Path.refl, Path.sym, Path.ap, Path.◌∙◌}
-use Rattle.std.specs.Prelude.{Option, Some, None}
+use mathlib.Core.{Path.◌≡◌, Path.sym, Path.ap, Path.◌∙◌}
+use Rattle.std.specs.Prelude.{Option}
 use mathlib.Core.Bool.{Bool, true, false, not, ◌&&◌, and-false}
 use mathlib.Core.List.{List}
 use Prim.Native.Nat.{ℕ, suc, ◌+◌, ◌-◌, ◌≤◌, ◌<◌}
 use native.Mathlib.Omega.{arith}
 use lib.{Dec.eqb, ListN.length, ListN.take, ListN.drop}
 use borrow.Author.Tests.{eq-eqb, ne_eqb, not-true, not-false}
-use borrow.Author.Rules.{part_to_end}
-use Rattle.octets.specs.Choice.{either}
-use Rattle.octets.proofs.Ranges.{true_false}
 use Rattle.record.specs.{declared.Message.Message, Fits.fault_in}
 use Rattle.layout.specs.Taken.{number_at, dl_data_que_at, message_at}
 use Rattle.queue.specs.Entry.{Entry}
-use Rattle.queue.specs.Queue.{Queue, has_id, is_free, is_other, is_unlike, are_unlike}
+use Rattle.queue.specs.Queue.{Queue, has_id, is_other, is_unlike, are_unlike}
 use Rattle.queue.specs.Store.{slot_at, is_used, entry_in, queue_at, is_whole, are_whole, is_sound}
-use Rattle.queue.specs.Code.Slots.{entry_at, left}
-use Rattle.queue.proofs.{Unique.free_unlike, Walks.lent_slot, Walks.slot_is, Walks.left_at, Walks.left_none}
+use Rattle.queue.specs.Code.Slots.{left}
+use Rattle.queue.proofs.{Unique.free_unlike, Slots.lent_is, Walks.left_at, Walks.left_none}
 
 -- a place
 module _ (s : List ℕ) (u : Bool) (e : u ≡ is_used s) where
@@ -25,47 +22,37 @@ module _ (s : List ℕ) (u : Bool) (e : u ≡ is_used s) where
   unfolding is_whole
   whole_free h = rw (← e, not-true u h)
 
-  pub whole_fit : not u ≡ false → (m : Message) (f : ℕ) → m ≡ message_at s → f ≡ fault_in m (take (length s - 104) (drop 104 s)) → eqb f 0 ≡ is_whole s
+  pub whole_fit : length s ≡ 984 → not u ≡ false → (m : Message) (f : ℕ) → m ≡ message_at s → f ≡ fault_in m (take 880 (drop 104 s)) → eqb f 0 ≡ is_whole s
   unfolding is_whole
-  whole_fit h m f p r = rw (← e, not-false u h, r, p, part_to_end s 104)
+  whole_fit l h m f p r = rw (← e, not-false u h, r, p, lent_is s l)
 
-pub whole_at : (q : List ℕ) (i : ℕ) (r : Bool) → r ≡ is_whole (lent_slot q i) → r ≡ is_whole (slot_at q i)
-whole_at q i r e = e ∙ ap is_whole (slot_is q i)
-
-pub number_at_lem : (q : List ℕ) (i r n p : ℕ) → r ≡ number_at (lent_slot q i) n p → r ≡ number_at (slot_at q i) n p
-number_at_lem q i r n p e = e ∙ ap (λ (s : List ℕ). number_at s n p) (slot_is q i)
-
-pub ruleset wholes = (whole_free, whole_fit, whole_at, number_at_lem)
+pub ruleset wholes = (whole_free, whole_fit)
 
 -- one place against those behind it
 module _ (q : List ℕ) (i : ℕ) where
   abbrev x : Option Entry
   x = entry_in (slot_at q i)
 
-  pub unlike_free : (b : Bool) → b ≡ is_free x → b ≡ true → (l : Queue) → true ≡ is_unlike x l
-  unlike_free b e h l = go x (sym e ∙ h)
-    where
-      go : (y : Option Entry) → is_free y ≡ true → true ≡ is_unlike y l
-      go None p = sym (free_unlike l)
-      go (Some a) p = true_false (sym p)
+  module _ (s : List ℕ) (a : s ≡ slot_at q i) (u : Bool) (e : u ≡ is_used s) where
+    used_at : (b : Bool) → u ≡ b → is_used (slot_at q i) ≡ b
+    used_at b h = sym (rw a at e) ∙ h
+
+    pub unlike_free : not u ≡ true → (l : Queue) → true ≡ is_unlike x l
+    unlike_free h l = rw (used_at false (not-true u h)) (sym (free_unlike l))
 
   pub unlike_none : true ≡ is_unlike x (left q 32)
   unfolding is_unlike
   unlike_none = rw (left_none q)
 
   module _ (j : ℕ) (told : Bool) (e : told ≡ is_unlike x (left q j)) where
-    other_is : (k : ℕ) → k ≡ number_at (slot_at q i) 8 24 → is_free x ≡ false → (y : Option Entry) → not (has_id k y) ≡ is_other x y
+    other_is : (k : ℕ) → k ≡ number_at (slot_at q i) 8 24 → is_used (slot_at q i) ≡ true → (y : Option Entry) → not (has_id k y) ≡ is_other x y
     unfolding dl_data_que_at
-    other_is k p f y = rw p (go (is_used (slot_at q i)) f)
-      where
-        go : (b : Bool) → is_free (either b (λ _. Some (entry_at (slot_at q i))) (λ _. None)) ≡ false → not (has_id (number_at (slot_at q i) 8 24) y) ≡ is_other (either b (λ _. Some (entry_at (slot_at q i))) (λ _. None)) y
-        go true f = refl
-        go false f = true_false f
+    other_is k p f y = rw (f, p)
 
-    module _ (l : j < 32) (g : Bool) (p : g ≡ is_free x) (f : g ≡ false) (k : ℕ) (r : k ≡ number_at (slot_at q i) 8 24) (b : Bool) (s : b ≡ has_id k (entry_in (slot_at q j))) where
+    module _ (l : j < 32) (s t : List ℕ) (a : s ≡ slot_at q i) (c : t ≡ slot_at q j) (u : Bool) (p : u ≡ is_used s) (f : not u ≡ false) (k : ℕ) (r : k ≡ number_at s 8 24) (b : Bool) (y : b ≡ has_id k (entry_in t)) where
       here : told ≡ (not b && is_unlike x (left q (j + 1)))
       unfolding is_unlike
-      here = e ∙ rw (left_at q j l, s, other_is k r (sym p ∙ f) (entry_in (slot_at q j)))
+      here = e ∙ rw (left_at q j l, y, c, other_is k (rw a at r) (used_at s a u p true (not-false u f)) (entry_in (slot_at q j)))
 
       pub unlike_turn : b ≡ false → told ≡ is_unlike x (left q (j + 1))
       unlike_turn n = here ∙ rw n

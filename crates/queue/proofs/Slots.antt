@@ -4,12 +4,12 @@ use mathlib.Core.{Path.◌≡◌, Path.refl, Path.sym, Path.ap, Path.◌∙◌}
 use Rattle.std.specs.Prelude.{Some, None}
 use mathlib.Core.Bool.{Bool, true, false, not, ◌&&◌, ◌||◌, and-true}
 use mathlib.Core.List.{List, [], ◌∷◌}
-use Prim.Native.Nat.{ℕ, suc, ◌+◌, ◌-◌, ◌≤◌, ◌<◌}
+use Prim.Native.Nat.{ℕ, suc, ◌+◌, ◌≤◌, ◌<◌}
 use native.Mathlib.Omega.{arith}
 use lib.{Dec.eqb, Dec.ltb, Dec.leb-suc-suc, ListN.length, ListN.take, ListN.drop, ListN.get_or, ListN.length-drop, ListN.get_or-eq_default}
 use lib.Seq.{get_or-take, get_or-drop, take-take, length-take-le}
 use borrow.Author.Tests.{lt-ltb, eq-eqb, ne_eqb, not-true, not-false}
-use borrow.Author.Rules.{part_to_end}
+use Rattle.std.proofs.lemmas.List.{take_all}
 use Rattle.octets.specs.{Choice.either, Pieces.counters_from, Pieces.sum_of}
 use Rattle.forms.proofs.Downlinks.{counters_length}
 use Rattle.layout.specs.Taken.{number_at, flag_at, dl_data_que_at}
@@ -48,10 +48,13 @@ module _ (s : List ℕ) where
       go false = refl
 
   -- the lent bytes behind the record
-  pub lent_long : length s ≡ 984 → length (take (length s - 104) (drop 104 s)) ≡ 880
-  lent_long e = rw (part_to_end s 104) (length-drop 104 s ∙ omega arith)
+  pub lent_long : length s ≡ 984 → length (take 880 (drop 104 s)) ≡ 880
+  lent_long e = length-take-le 880 (drop 104 s) (omega (arith, length-drop 104 s))
 
-  pub lengths_lie : length s ≡ 984 → (j : ℕ) → j ≤ 255 → 64 + j ≤ length (take (length s - 104) (drop 104 s))
+  pub lent_is : length s ≡ 984 → take 880 (drop 104 s) ≡ drop 104 s
+  lent_is e = take_all 880 (drop 104 s) (omega (arith, length-drop 104 s))
+
+  pub lengths_lie : length s ≡ 984 → (j : ℕ) → j ≤ 255 → 64 + j ≤ length (take 880 (drop 104 s))
   lengths_lie e j h = omega (arith, lent_long e)
 
   -- by whether it depends on counters
@@ -60,19 +63,19 @@ module _ (s : List ℕ) where
     unfolding dl_data_que_at
     named_any h = rw (← e, not-true t h)
 
-    pub named_one : not t ≡ false → (n r : ℕ) → n ≡ number_at s 1 40 → r ≡ place_of k (counters_from (take (length s - 104) (drop 104 s)) n 0) → ltb r n ≡ names_counter k (entry_at s)
+    pub named_one : length s ≡ 984 → not t ≡ false → (n r : ℕ) → n ≡ number_at s 1 40 → r ≡ place_of k (counters_from (take 880 (drop 104 s)) n 0) → ltb r n ≡ names_counter k (entry_at s)
     unfolding dl_data_que_at
-    named_one h n r p q =
-        rw (← e, not-false t h, ← p, q, part_to_end s 104)
+    named_one l h n r p q =
+        rw (← e, not-false t h, ← p, q, lent_is l)
         (ap (ltb (place_of k (counters_from (drop 104 s) n 0))) (sym (counters_length (drop 104 s) n 0)) ∙ among_place k (counters_from (drop 104 s) n 0))
 
     pub piece_only : not t ≡ true → 0 ≡ piece_for k (entry_at s)
     unfolding dl_data_que_at
     piece_only h = rw (← e, not-true t h)
 
-    pub piece_for_lem : not t ≡ false → (n r : ℕ) → n ≡ number_at s 1 40 → r ≡ place_of k (counters_from (take (length s - 104) (drop 104 s)) n 0) → r ≡ piece_for k (entry_at s)
+    pub piece_for_lem : length s ≡ 984 → not t ≡ false → (n r : ℕ) → n ≡ number_at s 1 40 → r ≡ place_of k (counters_from (take 880 (drop 104 s)) n 0) → r ≡ piece_for k (entry_at s)
     unfolding dl_data_que_at
-    piece_for_lem h n r p q = rw (← e, not-false t h, ← p, q, part_to_end s 104)
+    piece_for_lem l h n r p q = rw (← e, not-false t h, ← p, q, lent_is l)
 
   -- by the tests in their order
   module _ (u : Bool) (e : u ≡ is_used s) (eui k : ℕ) (expected : Bool) where
@@ -102,12 +105,12 @@ piece_few s k = go (flag_at s 42)
     go true = omega (arith, place_few k (counters_from (drop 104 s) (number_at s 1 40) 0), counters_length (drop 104 s) (number_at s 1 40) 0)
     go false = omega arith
 
-pub shown_is : (s : List ℕ) (i k j n f z : ℕ) → j ≡ piece_for k (entry_at s) → n ≡ number_at s 1 40 → f ≡ sum_of (take j (drop 64 (take (length s - 104) (drop 104 s))))
-    → z ≡ get_or (take n (drop 64 (take (length s - 104) (drop 104 s)))) j 0
+pub shown_is : (s : List ℕ) → length s ≡ 984 → (i k j n f z : ℕ) → j ≡ piece_for k (entry_at s) → n ≡ number_at s 1 40 → f ≡ sum_of (take j (drop 64 (take 880 (drop 104 s))))
+    → z ≡ get_or (take n (drop 64 (take 880 (drop 104 s)))) j 0
     → ◌≡◌ {A = Chosen} (record { place = i; from = 80 + f; size = z }) (shown_at i (piece_for k (entry_at s)) (entry_at s).lengths)
 unfolding dl_data_que_at
-shown_is s i k j n f z p q g h =
+shown_is s l i k j n f z p q g h =
     let few : j ≤ n = omega (arith, piece_few s k) in
-    rw (← p, ← q, take-take j n (drop 64 (drop 104 s)) few, g, h, part_to_end s 104)
+    rw (← p, ← q, take-take j n (drop 64 (drop 104 s)) few, g, h, lent_is s l)
 
 pub ruleset showing = (shown_is, lengths_lie, arith)

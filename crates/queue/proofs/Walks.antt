@@ -2,51 +2,37 @@
 -- Assumes nothing.
 use mathlib.Core.{Path.◌≡◌, Path.refl, Path.sym, Path.ap, Path.◌∙◌}
 use Rattle.std.specs.Prelude.{Option, Some, None, MatchOption}
-use mathlib.Core.Bool.{Bool, true, false, not}
+use mathlib.Core.Bool.{Bool, true, false}
 use mathlib.Core.List.{List, [], ◌∷◌}
-use Prim.Native.Nat.{ℕ, suc, ◌+◌, ◌-◌, ◌*◌, ◌≤◌, ◌<◌}
+use Prim.Native.Nat.{ℕ, zero, suc, ◌+◌, ◌-◌, ◌*◌, ◌/◌, ◌≤◌, ◌<◌}
 use native.Mathlib.Nat.{zero-add}
 use native.Mathlib.Omega.{arith}
-use lib.{ListN.length, ListN.take, ListN.drop, ListN.get_or, ListN.length-drop, Seq.length-take-le}
-use Rattle.octets.specs.Choice.{either}
+use Rattle.std.specs.Simd.{first_chunks}
+use lib.{ListN.length, ListN.take, ListN.drop, ListN.get_or, Seq.drop-drop}
 use Rattle.layout.specs.Taken.{number_at, dl_data_que_at}
 use Rattle.queue.specs.Entry.{Entry, goes_before}
-use Rattle.queue.specs.Queue.{has_id, is_free, first_place}
-use Rattle.queue.specs.Store.{slot_at, is_used, entry_in, places_from, queue_at}
-use Rattle.queue.specs.Code.{Rank.bits_before, Slots.passing, Slots.entry_at, Slots.left}
+use Rattle.queue.specs.Queue.{first_place}
+use Rattle.queue.specs.Store.{slot_at, entry_in, places_from, queue_at}
+use Rattle.queue.specs.Code.{Rank.bits_before, Slots.entry_at, Slots.left}
 use Rattle.queue.proofs.{Places.missed, Places.first_at, Reached.places_many, Reached.place_at}
 
--- a place of the store is a part of it
-module _ (q : List ℕ) (i : ℕ) where
-  abbrev pub lent_slot : List ℕ
-  lent_slot = take (984 * i + 984 - 984 * i) (drop (984 * i) q)
+-- a place of the store is one of the parts that it falls into
+pub slot_is : (n : ℕ) (q : List ℕ) (i : ℕ) (d : List ℕ) → i < n → get_or (first_chunks 984 n q) i d ≡ slot_at q i
+unfolding slot_at
+slot_is zero q i d h = absurd (omega arith)
+slot_is (suc n) q zero d h = refl
+slot_is (suc n) q (suc i) d h =
+    slot_is n (drop 984 q) i d (omega arith) ∙ ap (take 984) (drop-drop (984 * i) 984 q ∙ ap (λ (k : ℕ). drop k q) (omega arith))
 
-  pub slot_is : lent_slot ≡ slot_at q i
-  unfolding slot_at
-  slot_is = let e : 984 * i + 984 - 984 * i ≡ 984 = omega arith in rw e
+pub slot_in : (q : List ℕ) (i : ℕ) (d : List ℕ) (c : List (List ℕ)) → length q ≡ 31488 → i < 32 → c ≡ first_chunks 984 (length q / 984) q → get_or c i d ≡ slot_at q i
+slot_in q i d c l h e = rw (e, l) (slot_is 32 q i d h)
 
-  pub slot_long : length q ≡ 31488 → i < 32 → length lent_slot ≡ 984
-  slot_long e h = length-take-le (984 * i + 984 - 984 * i) (drop (984 * i) q) (omega (arith, length-drop (984 * i) q)) ∙ omega arith
-
-  pub id_at : (r : Bool) (k : ℕ) → r ≡ has_id k (entry_in lent_slot) → r ≡ has_id k (entry_in (slot_at q i))
-  id_at r k e = rw (← slot_is) e
-
-  pub suits_at : (r : Bool) (test : Entry → Bool) → r ≡ passing test (entry_in lent_slot) → r ≡ passing test (entry_in (slot_at q i))
-  suits_at r test e = rw (← slot_is) e
-
-  pub free_at : (r : Bool) → r ≡ is_used lent_slot → not r ≡ is_free (entry_in (slot_at q i))
-  free_at r e = rw (← slot_is, e) (go (is_used lent_slot))
-    where
-      go : (b : Bool) → not b ≡ is_free (either b (λ _. Some (entry_at lent_slot)) (λ _. None))
-      go true = refl
-      go false = refl
-
-pub before_at : (q : List ℕ) (a b : ℕ) (r : Bool) (p i o j : ℕ) → r ≡ bits_before p i o j → p ≡ number_at (lent_slot q a) 8 32 → i ≡ number_at (lent_slot q a) 8 24
-    → o ≡ number_at (lent_slot q b) 8 32 → j ≡ number_at (lent_slot q b) 8 24 → r ≡ goes_before (entry_at (slot_at q a)) (entry_at (slot_at q b))
+pub before_is : (a b : List ℕ) (r : Bool) (p i o j : ℕ) → r ≡ bits_before p i o j → p ≡ number_at a 8 32 → i ≡ number_at a 8 24 → o ≡ number_at b 8 32 → j ≡ number_at b 8 24
+    → r ≡ goes_before (entry_at a) (entry_at b)
 unfolding bits_before dl_data_que_at
-before_at q a b r p i o j e f g h k = rw (← slot_is q a, ← slot_is q b, e, f, g, h, k)
+before_is a b r p i o j e f g h k = rw (e, f, g, h, k)
 
-pub ruleset slots_at = (slot_long, id_at, suits_at, free_at, before_at, arith)
+pub ruleset slots_at = (slot_in, before_is, arith)
 
 module _ (q : List ℕ) where
   pub left_next : (i : ℕ) → 0 < i → i ≤ 32 → left q (i - 1) ≡ entry_in (slot_at q (i - 1)) ∷ left q i

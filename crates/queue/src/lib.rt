@@ -18,6 +18,7 @@ ghost use Rattle.queue.specs.Code.Slots.{entry_at, adds_fit};
 
 use record::{Body, DlDataQue, Message};
 use refusal::Refusal;
+use store::{SIZE, Store, Wanted, slot};
 
 // The command of a place that is free.
 const FREE: u8 = 0;
@@ -35,9 +36,9 @@ pub struct Chosen {
 pub fn add(q: &mut [u8], m: Message, d: &[u8]) -> Result<u8, Refusal>
     ensures { ◌≡◌ {A = Queued ℕ} (queued result q.new) (adds q.old m d.now) }
 {
-    if q.len() != store::SIZE {
+    let Some(q) = q.as_mut_array::<SIZE>() else {
         return Err(Refusal::Invalid);
-    }
+    };
     let b = m.body;
     match b {
         Body::DlDataQue(x) => add_downlink(q, m, x, d),
@@ -46,8 +47,8 @@ pub fn add(q: &mut [u8], m: Message, d: &[u8]) -> Result<u8, Refusal>
 }
 
 #[tactic(auto, using(crate::proofs::Adding::downlinks))]
-fn add_downlink(q: &mut [u8], m: Message, x: DlDataQue, d: &[u8]) -> Result<u8, Refusal>
-    requires { (length q.old ≡ store_size) × (m.body ≡ Body.DlDataQue x) }
+fn add_downlink(q: &mut Store, m: Message, x: DlDataQue, d: &[u8]) -> Result<u8, Refusal>
+    requires { m.body ≡ Body.DlDataQue x }
     ensures { ◌≡◌ {A = Queued ℕ} (queued result q.new) (adds_fit q.old m x d.now) }
 {
     if faults::fault(m, d) != 0 {
@@ -66,8 +67,8 @@ fn add_downlink(q: &mut [u8], m: Message, x: DlDataQue, d: &[u8]) -> Result<u8, 
     Ok(i as u8)
 }
 
-fn put_entry(q: &mut [u8], i: usize, id: i64, x: DlDataQue, d: &[u8], n: usize)
-    requires { (length q.old ≡ store_size) × (i < 32) × (n ≤ length d.now) }
+fn put_entry(q: &mut Store, i: usize, id: i64, x: DlDataQue, d: &[u8], n: usize)
+    requires { (i < 32) × (n ≤ length d.now) }
     ensures { q.new ≡ put_at (put_at q.old (slot_size * i) (message_image (record { op_id = id; body = Body.DlDataQue x }))) (slot_size * i + message_size) (take n d.now) }
 {
     let at = store::SLOT * i;
@@ -81,9 +82,9 @@ fn put_entry(q: &mut [u8], i: usize, id: i64, x: DlDataQue, d: &[u8], n: usize)
 pub fn cancel(q: &mut [u8], id: u64) -> Result<u8, Refusal>
     ensures { ◌≡◌ {A = Queued ℕ} (queued result q.new) (cancels q.old id) }
 {
-    if q.len() != store::SIZE {
+    let Some(q) = q.as_mut_array::<SIZE>() else {
         return Err(Refusal::Invalid);
-    }
+    };
     let Some(i) = lookup::place_of_id(q, id) else {
         return Err(Refusal::NoQueueId);
     };
@@ -96,13 +97,18 @@ pub fn cancel(q: &mut [u8], id: u64) -> Result<u8, Refusal>
 pub fn choose(q: &mut [u8], eui: u64, counter: u32, expected: bool) -> Result<Chosen, Refusal>
     ensures { ◌≡◌ {A = Queued Chosen} (queued result q.new) (chooses q.old eui counter expected) }
 {
-    if q.len() != store::SIZE {
+    let Some(q) = q.as_mut_array::<SIZE>() else {
         return Err(Refusal::Invalid);
-    }
-    let Some(i) = lookup::best(q, eui, counter, expected) else {
+    };
+    let wanted = Wanted {
+        eui,
+        counter,
+        expected,
+    };
+    let Some(i) = lookup::best(q, wanted) else {
         return Err(Refusal::NothingSuitable);
     };
-    let shown = shown_at(q, i, counter);
+    let shown = store::shown(slot(q, i), i, counter);
     free(q, i);
     Ok(shown)
 }
@@ -111,22 +117,13 @@ pub fn choose(q: &mut [u8], eui: u64, counter: u32, expected: bool) -> Result<Ch
 pub fn is_sound(q: &[u8]) -> bool
     ensures { result ≡ is_sound q.now }
 {
-    q.len() == store::SIZE && sound::are_sound(q)
-}
-
-fn shown_at(q: &[u8], i: usize, k: u32) -> Chosen
-    requires { (length q.now ≡ store_size) × (i < 32) }
-    ensures { result ≡ shown_at i (piece_for k (entry_at (slot_at q.now i))) (entry_at (slot_at q.now i)).lengths }
-{
-    let at = store::SLOT * i;
-    let end = at + store::SLOT;
-    store::shown(&q[at..end], i, k)
+    q.as_array::<SIZE>().is_some_and(sound::are_sound)
 }
 
 // By its command alone: what stands there still stands.
 #[tactic(auto, using(crate::proofs::Calling::calls))]
-fn free(q: &mut [u8], i: usize)
-    requires { (length q.old ≡ store_size) × (i < 32) }
+fn free(q: &mut Store, i: usize)
+    requires { i < 32 }
     ensures { q.new ≡ freed_at q.old i }
 {
     q[store::SLOT * i + store::COMMAND] = FREE;

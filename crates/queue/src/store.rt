@@ -2,13 +2,13 @@
 ghost use Rattle.std.specs.Prelude.{◌≡◌, ◌+◌, ◌≤◌, ◌<◌, length, take, drop, get_or};
 ghost use Rattle.octets.specs.Pieces.{counters_from, sum_of};
 ghost use Rattle.layout.specs.Taken.{number_at, flag_at};
-ghost use Rattle.queue.specs.Entry.{place_of, is_suitable, piece_for};
+ghost use Rattle.queue.specs.Entry.{place_of, is_suitable, goes_before, piece_for};
 ghost use Rattle.queue.specs.Queue.{has_id};
-ghost use Rattle.queue.specs.Store.{slot_size, is_used, entry_in};
+ghost use Rattle.queue.specs.Store.{slot_at, is_used, entry_in};
 ghost use Rattle.queue.specs.Calls.{shown_at};
 ghost use Rattle.queue.specs.Code.Slots.{passing, names_counter, entry_at, or_behind};
 
-use crate::Chosen;
+use crate::{Chosen, rank};
 use names::numbers::DL_DATA_QUE;
 use octets::little_at;
 
@@ -18,6 +18,27 @@ pub const SLOTS: usize = 32;
 
 // The store: all places.
 pub const SIZE: usize = 31488;
+
+pub type Store = [u8; SIZE];
+
+// A place of it.
+pub type Slot = [u8; SLOT];
+
+// What is looked for in an entry that is to be sent.
+#[derive(Clone, Copy)]
+pub struct Wanted {
+    pub eui: u64,
+    pub counter: u32,
+    pub expected: bool,
+}
+
+#[tactic(auto, using(crate::proofs::Walks::slots_at))]
+pub fn slot(q: &Store, i: usize) -> &Slot
+    requires { i < 32 }
+    ensures { result.now ≡ slot_at q.now i }
+{
+    &q.as_chunks::<SLOT>().0[i]
+}
 
 // Where the fields of a record lie.
 pub const COMMAND: usize = 8;
@@ -56,34 +77,42 @@ fn is_set(s: &[u8], at: usize) -> bool
 }
 
 // How many data entries it has.
-fn entries(s: &[u8]) -> usize
+fn entries(s: &Slot) -> usize
     ensures value { result ≡ number_at s.now 1 40 }
     ensures few { result ≤ 255 }
 {
     usize::from(byte(s, ENTRIES))
 }
 
-pub fn is_used(s: &[u8]) -> bool
+pub fn is_used(s: &Slot) -> bool
     ensures { result ≡ is_used s.now }
 {
     byte(s, COMMAND) == DL_DATA_QUE
 }
 
-pub fn id(s: &[u8]) -> u64
+pub fn id(s: &Slot) -> u64
     ensures { result ≡ number_at s.now 8 24 }
 {
     little_at(s, QUE_ID, 8)
 }
 
 // The prio's bits.
-pub fn prio(s: &[u8]) -> u64
+pub fn prio(s: &Slot) -> u64
     ensures { result ≡ number_at s.now 8 32 }
 {
     little_at(s, PRIO, 8)
 }
 
+// Of two entries, both used.
+#[tactic(auto, using(crate::proofs::Walks::slots_at))]
+pub fn goes_before(a: &Slot, b: &Slot) -> bool
+    ensures { result ≡ goes_before (entry_at a.now) (entry_at b.now) }
+{
+    rank::goes_before(prio(a), id(a), prio(b), id(b))
+}
+
 #[tactic(auto, using(crate::proofs::Slots::slots))]
-pub fn has_id(s: &[u8], wanted: u64) -> bool
+pub fn has_id(s: &Slot, wanted: u64) -> bool
     ensures { result ≡ has_id wanted (entry_in s.now) }
 {
     is_used(s) & (id(s) == wanted)
@@ -133,8 +162,7 @@ fn length_at(d: &[u8], n: usize, j: usize) -> u8
 }
 
 // Whether an entry names a counter, if it depends on counters.
-fn names_counter(s: &[u8], k: u32) -> bool
-    requires { length s.now ≡ slot_size }
+fn names_counter(s: &Slot, k: u32) -> bool
     ensures { result ≡ names_counter k (entry_at s.now) }
 {
     if !is_set(s, CNT_DEPEND) {
@@ -144,23 +172,21 @@ fn names_counter(s: &[u8], k: u32) -> bool
     place_of(&s[LENT..], n, k) < n
 }
 
-pub fn suits(s: &[u8], eui: u64, k: u32, expected: bool) -> bool
-    requires { length s.now ≡ slot_size }
-    ensures { result ≡ passing (is_suitable eui k expected) (entry_in s.now) }
+pub fn suits(s: &Slot, wanted: Wanted) -> bool
+    ensures { result ≡ passing (is_suitable wanted.eui wanted.counter wanted.expected) (entry_in s.now) }
 {
     if !is_used(s) {
         return false;
     }
-    if little_at(s, EP_EUI, 8) != eui {
+    if little_at(s, EP_EUI, 8) != wanted.eui {
         return false;
     }
     let only = is_set(s, HAS_EXP_ONLY) & is_set(s, EXP_ONLY);
-    names_counter(s, k) & (!only | expected)
+    names_counter(s, wanted.counter) & (!only | wanted.expected)
 }
 
 // The place of the data for a counter, or of the only data.
-fn piece(s: &[u8], k: u32) -> usize
-    requires { length s.now ≡ slot_size }
+fn piece(s: &Slot, k: u32) -> usize
     ensures value { result ≡ piece_for k (entry_at s.now) }
     ensures few { result ≤ 255 }
 {
@@ -171,8 +197,8 @@ fn piece(s: &[u8], k: u32) -> usize
 }
 
 // Where they stand, of the i-th place.
-pub fn shown(s: &[u8], i: usize, k: u32) -> Chosen
-    requires { (length s.now ≡ slot_size) × (i < 32) }
+pub fn shown(s: &Slot, i: usize, k: u32) -> Chosen
+    requires { i < 32 }
     ensures { result ≡ shown_at i (piece_for k (entry_at s.now)) (entry_at s.now).lengths }
 {
     let j = piece(s, k);

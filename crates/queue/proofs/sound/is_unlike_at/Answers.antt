@@ -3,5 +3,5 @@ use Rattle.queue.proofs.Judged.{unlikes}
 use Rattle.std.proofs.Common.{rules}
 use Rattle.queue.proofs.sound.is_unlike_at.Goals as goal
 
-pub returns-then-has_id_at : goal.returns-then-has_id_at
-returns-then-has_id_at c = search (unlikes, rules)
+pub returns-then-has_id : goal.returns-then-has_id
+returns-then-has_id c = search (unlikes, rules)
