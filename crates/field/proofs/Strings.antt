@@ -1,19 +1,19 @@
 -- The bytes of a text, copied: the room with the bytes that are left put from i on is the room with all of them. Each law in the shape of a
 -- need of the code. Assumes nothing.
 use mathlib.Core.Path.{◌≡◌, refl, sym, ap, ◌∙◌}
-use mathlib.Core.{Bool.Bool, Bool.true, Bool.false, List.List, List.◌∷◌, List.◌++◌, Option.Option, Option.some, Option.none}
+use mathlib.Core.{Bool.Bool, Bool.true, Bool.false, List.List, List.◌∷◌, Option.Option, Option.some, Option.none}
 use Prim.Native.Nat.{ℕ, suc, ◌+◌, ◌-◌, ◌≤◌, ◌<◌}
-use native.Mathlib.Nat.{zero-add}
+use native.Mathlib.Nat.{add-zero, sub-zero}
 use native.Mathlib.Omega.{arith}
 use lib.{Dec.leb, Seq.drop-cons}
-use lib.ListN.{length, get_or, take, drop}
+use lib.ListN.{length, get_or, take, drop, set}
 use borrow.Author.Tests.{le-leb, leb-false}
 use Rattle.octets.specs.{Choice.either, Bytes.put_at}
-use Rattle.octets.proofs.{Places.length_part, Writing.put_out}
+use Rattle.octets.proofs.{Places.length_part, Stores.kept, Writing.put_out, Writing.put_none}
 use Rattle.std.specs.Prelude.{Option as Answer, Some, None}
 use Rattle.field.specs.declared.Extent.{Extent}
 use Rattle.field.specs.{Kind.Kind, Kind.Value, Judge.string_sized, Judge.judge, Code.At.shallow_at, Code.At.string_filled, Code.Extent.Bears}
-use Rattle.field.proofs.{Texts.by_text, Texts.text_within}
+use Rattle.field.proofs.{Texts.by_text, Texts.text_within, Intos.put_cons}
 
 -- one byte more of n
 pub take_more : (s : List ℕ) (from n i : ℕ) → from + n ≤ length s → i < n → take (n - i) (drop (from + i) s) ≡ get_or s (from + i) 0 ∷ take (n - (i + 1)) (drop (from + (i + 1)) s)
@@ -26,14 +26,22 @@ module _ (s : List ℕ) (from n : ℕ) (h : from + n ≤ length s) (room : List 
   pub string_long : length room < n → room ≡ put_at room 0 (take n (drop from s))
   string_long l = sym (put_out room 0 (take n (drop from s)) (omega (arith, length_part s from n h)))
 
-  pub string_put : n ≤ length room → (d : List ℕ) → d ≡ take (from + n - from) (drop from s) → d ++ drop n room ≡ put_at room 0 (take n (drop from s))
-  unfolding put_at
-  string_put l d e =
-      let z : from + n - from ≡ n = omega arith in
-      let y : d ≡ take n (drop from s) = e ∙ ap (λ (k : ℕ). take k (drop from s)) z in
-      rw y (sym (simp (length_part s from n h, zero-add, le-leb n (length room) l)))
+  pub string_start : put_at room 0 (take (n - 0) (drop (from + 0) s)) ≡ put_at room 0 (take n (drop from s))
+  string_start = rw (sub-zero, add-zero)
 
-pub ruleset strings = (string_long, string_put, arith)
+  module _ (out : List ℕ) (i : ℕ) where
+    pub string_more : i < n → n ≤ length room → length out ≡ length room → put_at out i (take (n - i) (drop (from + i) s)) ≡ put_at room 0 (take n (drop from s)) → put_at (set out i (get_or s (from + i) 0)) (i + 1) (take (n - (i + 1)) (drop (from + (i + 1)) s)) ≡ put_at room 0 (take n (drop from s))
+    string_more l r k e =
+        put_cons out i (get_or s (from + i) 0) (take (n - (i + 1)) (drop (from + (i + 1)) s))
+        (omega (arith, length_part s (from + (i + 1)) (n - (i + 1)) (omega arith)))
+        ∙ ap (put_at out i) (sym (take_more s from n i h l)) ∙ e
+
+    pub string_done : n ≤ i → put_at out i (take (n - i) (drop (from + i) s)) ≡ put_at room 0 (take n (drop from s)) → out ≡ put_at room 0 (take n (drop from s))
+    string_done l e =
+        let z : n - i ≡ 0 = omega arith in
+        sym (ap (λ (k : ℕ). put_at out i (take k (drop (from + i) s))) z ∙ put_none out i) ∙ e
+
+pub ruleset strings = (kept, string_long, string_start, string_more, string_done, arith)
 
 -- a text that has no room is not put
 put_sized : (room d : List ℕ) → put_at room 0 d ≡ string_filled (string_sized 0 (length room) d) room

@@ -67,8 +67,8 @@ pub fn low_run(s: &[u8], from: usize, n: usize) -> usize
     r
 }
 
-// The number at a place. Most are written in one byte, or in one behind CC. Not inlined, so that `into::part_at`, which asks it seldom, is.
-#[inline(never)]
+// The number at a place. Most are written in one byte, or in one behind CC. In line, or each part in a longer form pays a call.
+#[inline(always)]
 #[tactic(auto, using(crate::proofs::Octets::octets))]
 pub fn octet_at(s: &[u8], at: usize) -> Option<Octet>
     ensures { result ≡ octet_at s.now at }

@@ -39,7 +39,7 @@ pub fn play(
     let m = counted.message;
     let b = m.body;
     if !accepts(session, m, &lent) {
-        return None;
+        return None; // and not to the table
     }
     to_table(table, station, b)
 }

@@ -1,13 +1,13 @@
 -- What the code goes by, places in the bytes, is what `Meant` asks for: for the bytes of a lawful tree the cells are those of what the outer map says, and
 -- so is the reading. Assumes nothing.
-use mathlib.Core.Path.{◌≡◌, refl, sym, ap, ◌∙◌}
+use mathlib.Core.Path.{◌≡◌, refl, ap, ◌∙◌}
 use mathlib.Core.{Bool.Bool, Bool.true, Bool.false, List.List, Option.Option, Option.some, Option.none}
-use Prim.Native.Nat.{ℕ, ◌≤◌, ◌<◌}
+use Prim.Native.Nat.{ℕ, ◌≤◌}
 use native.Mathlib.Omega.{arith}
 use lib.{Dec.ltb, Dec.lit<, ListN.length, ListN.get_or}
 use borrow.Author.Tests.{lt-ltb, le-ltb, eq-eqb, ltb-false}
 use Rattle.std.specs.Prelude.{Ok, Err}
-use Rattle.refusal.specs.declared.{Broken.Broken, Refusal.TheVariants.Size, Refusal.TheVariants.LeftOver}
+use Rattle.refusal.specs.declared.{Refusal.TheVariants.Size, Refusal.TheVariants.LeftOver}
 use Rattle.octets.specs.{Choice.either, Size.is_size}
 use Rattle.element.specs.Form.{Role, Step, Walked, broken, element_of, ended, walk_of}
 use Rattle.element.specs.{Tree.count_of, Meaning.Fields, Meaning.meaning_of}

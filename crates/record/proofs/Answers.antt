@@ -2,8 +2,7 @@
 -- they then are, and no second answer is meant: every payload breaks a rule of form or is written by a tree. Assumes nothing.
 use mathlib.Core.Path.{◌≡◌, refl, sym, ap, subst, ◌∙◌}
 use mathlib.Core.{Bool.Bool, Bool.true, Bool.false, List.List}
-use Prim.Native.Nat.{ℕ, ◌≤◌, ◌<◌}
-use native.Mathlib.Omega.{arith}
+use Prim.Native.Nat.{ℕ, ◌≤◌}
 use lib.{Dec.ltb, ListN.length}
 use borrow.Author.Tests.{ltb-true, ltb-false}
 use Rattle.std.specs.Prelude.{Ok, Err}
@@ -14,7 +13,7 @@ use Rattle.element.proofs.Whole.{whole_tree}
 use Rattle.message.specs.Reading.{outer_of}
 use Rattle.record.specs.declared.{Message.Message, Counted.Counted}
 use Rattle.record.specs.{Fits.fits, Written.tree_for, Written.payload_for, Reading.Reading, Reading.reading_of, Lent.lent_of}
-use Rattle.record.specs.Meant.{Answered, breaks, refuses, answer_of, lent_size, Meant}
+use Rattle.record.specs.Meant.{Answered, breaks, answer_of, lent_size, Meant}
 use Rattle.record.proofs.{Typed.Typed, Payloads.payload_for_lem, RoundTrip.written_reads, Read.read_kept}
 
 -- demand 2, on bytes: what is written for a record, taken as a payload, is read as that record, and the bytes that it has lent stand at the start

@@ -15,8 +15,8 @@ use Rattle.session.specs.{Session.Entry, Image.id_at, Image.entries_at, Image.se
 use Rattle.session.specs.Place.{same_id, is_free, matches, entry, no_entry, first_from, free_place, entry_place}
 use Rattle.session.proofs.Image.{entries_long}
 use Rattle.steps.specs.declared.side.Side.{Side, TheVariants.Station, TheVariants.Centre}
-use Rattle.steps.specs.Code.Lies.{Lies, side_ids, side_kinds, entries_of}
-use Rattle.steps.proofs.{Tests.and_assoc, Lying.entry_at, Knowing.kept, Storing.long}
+use Rattle.steps.specs.Code.Lies.{side_ids, side_kinds, entries_of}
+use Rattle.steps.proofs.{Tests.and_assoc, Lying.entry_at, Knowing.kept}
 
 same_test : (a b c d : ℕ) (x : Bool) → eqb c d ≡ x → (a ≡ b → c ≡ d) → (c ≡ d → a ≡ b) → eqb a b ≡ eqb c d
 same_test a b c d true e f g = eq-eqb a b (g (eqb-true c d e)) ∙ sym e
@@ -72,11 +72,11 @@ id_there : (d : List ℕ) (v : Side) (i ids : ℕ) (z : ℤ) → ids ≡ side_id
 id_there d v i ids z p q = q ∙ ap (λ (k : ℕ). id_at d (k + 8 * i)) p
 
 -- and there is room for it and its kind
-pub id_room : (d : List ℕ) (i ids : ℕ) → Lies d → ids ≤ 152 → i < 16 → ids + 8 * i + 8 ≤ length d
-id_room d i ids l f h = omega (arith, long d l)
+pub id_room : (d : List ℕ) (i ids at : ℕ) → at + 128 ≤ length d → ids ≡ at → i < 16 → ids + 8 * i + 8 ≤ length d
+id_room d i ids at l e h = omega arith
 
-pub kind_room : (d : List ℕ) (i kinds : ℕ) → Lies d → kinds ≤ 296 → i < 16 → kinds + i < length d
-kind_room d i kinds l f h = omega (arith, long d l)
+pub kind_room : (d : List ℕ) (i kinds at : ℕ) → at + 16 ≤ length d → kinds ≡ at → i < 16 → kinds + i < length d
+kind_room d i kinds at l e h = omega arith
 
 -- a free one
 module _ (d : List ℕ) (v : Side) (i : ℕ) (e : free_place (entries_of v (session_at d)) ≡ first_from is_free i (drop i (entries_of v (session_at d)))) where

@@ -1,8 +1,8 @@
 // The sixteen places of one side.
-ghost use Rattle.std.specs.Prelude.{◌≡◌, ◌<◌, IfSome};
+ghost use Rattle.std.specs.Prelude.{◌≡◌, ◌+◌, ◌≤◌, ◌<◌, length, IfSome};
 ghost use Rattle.session.specs.Place.{matches, free_place, entry_place, entry};
 ghost use Rattle.session.specs.{Image.session_at};
-ghost use Rattle.steps.specs.Code.Lies.{Lies, Found, entries_of};
+ghost use Rattle.steps.specs.Code.Lies.{Found, side_ids, side_kinds, entries_of};
 
 use crate::lies::{PLACES, id_at};
 use crate::side::Side;
@@ -10,7 +10,7 @@ use crate::side::Side;
 // The lowest free place.
 #[tactic(auto, using(crate::proofs::Searching::free_here, crate::proofs::Searching::free_later, crate::proofs::Searching::free_none))]
 pub fn free_place(d: &[u8], side: Side) -> Option<usize>
-    requires { Lies d.now }
+    requires { side_ids side + 128 ≤ length d.now }
     ensures is { Found result (free_place (entries_of side (session_at d.now))) }
     ensures few { IfSome result (λ i. i < 16) }
 {
@@ -33,7 +33,7 @@ fn is_match(id: i64, kind: u8, wanted: i64, start: u8) -> bool
 // The lowest place with this ID and kind.
 #[tactic(auto, using(crate::proofs::Searching::match_here, crate::proofs::Searching::match_later, crate::proofs::Searching::match_none))]
 pub fn place_of(d: &[u8], side: Side, id: i64, start: u8) -> Option<usize>
-    requires { Lies d.now }
+    requires { (side_ids side + 128 ≤ length d.now) × (side_kinds side + 16 ≤ length d.now) }
     ensures is { Found result (entry_place id start (entries_of side (session_at d.now))) }
     ensures few { IfSome result (λ i. i < 16) }
 {

@@ -2,7 +2,12 @@ use borrow.Author.Rules.{rules}
 use Rattle.steps.proofs.Branches.{issue_unfit, issue_unsent, issue_sent}
 use Rattle.steps.proofs.Tests.{fault_none}
 use Rattle.std.proofs.Common.{rules}
+use native.Mathlib.Omega.{arith}
+use Rattle.steps.proofs.Storing.{long}
 use Rattle.steps.proofs.issue.issue.Goals as goal
+
+pub free_place-requires : goal.free_place-requires
+free_place-requires c = let l = long _ c.requires in omega arith
 
 pub put-requires : goal.put-requires
 put-requires c = fault_none _ _ _ c.fault.ensures c.if-fault-ne0.false

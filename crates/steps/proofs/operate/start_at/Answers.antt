@@ -2,7 +2,12 @@ use borrow.Author.Rules.{rules}
 use Rattle.steps.proofs.Branches.{start_unsent, start_sent}
 use Rattle.steps.proofs.Replies.{replies}
 use Rattle.std.proofs.Common.{rules}
+use native.Mathlib.Omega.{arith}
+use Rattle.steps.proofs.Storing.{long}
 use Rattle.steps.proofs.operate.start_at.Goals as goal
+
+pub free_place-requires : goal.free_place-requires
+free_place-requires c = let l = long _ c.requires.0 in omega arith
 
 pub reply-requires : goal.reply-requires
 reply-requires c = search (replies, rules)

@@ -6,3 +6,6 @@ use Rattle.walk.proofs.short.told_high.Goals as goal
 
 pub returns-then-is_number-clause-is : goal.returns-then-is_number-clause-is
 returns-then-is_number-clause-is c = search (sizes, tolds, rules)
+
+pub returns-then-b-ge224-clause-is : goal.returns-then-b-ge224-clause-is
+returns-then-b-ge224-clause-is c = search (sizes, tolds, rules)
