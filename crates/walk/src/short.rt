@@ -62,16 +62,20 @@ fn told_low(b: u8, rest: usize) -> usize
     told_any(b, rest)
 }
 
-// Numbers before the rest.
+// Numbers before the rest, then negative integers of a byte, then nil, false and true.
 fn told_high(b: u8, rest: usize) -> usize
+    requires { 0xC0 ≤ b }
     ensures is { result ≡ present rest (quick_of b) }
     ensures bounds { (result ≤ 160) × (result ≤ rest + 160 * (result - 63)) }
 {
     if is_number(b) {
         return within(1 + two_to(b % 4), rest);
     }
-    // `quick_of` comes to these behind all its other ranges: 1,000 of them took 42,516 instructions.
+    // `quick_of` comes to these last, and the next place has to wait for its answer: 1,000 of them took 42,516 instructions.
     if 0xE0 <= b {
+        return within(1, rest);
+    }
+    if b < 0xC4 && b != 0xC1 {
         return within(1, rest);
     }
     told_any(b, rest)

@@ -9,3 +9,6 @@ returns-then-is_number-clause-is c = search (sizes, tolds, rules)
 
 pub returns-then-b-ge224-clause-is : goal.returns-then-b-ge224-clause-is
 returns-then-b-ge224-clause-is c = search (sizes, tolds, rules)
+
+pub returns-then-b-ne193-clause-is : goal.returns-then-b-ne193-clause-is
+returns-then-b-ne193-clause-is c = search (sizes, tolds, rules)
