@@ -1,20 +1,13 @@
 use mathlib.Core.Bool.{true, false}
-use mathlib.Core.Path.{sym, ◌∙◌}
+use mathlib.Core.Path.{◌∙◌}
 use Rattle.walk.proofs.Turns.{err_again, pair_next, turns_next, turns_broken}
 use Rattle.walk.proofs.steps.+any_pair_element_held_held_pair_pair_pairs_value_values.Goals as goal
 
 pub any_pair-returns : goal.any_pair-returns
 any_pair-returns t c =
-    sym c.in_ok-value.was
+    c.apart.ensures
     ∙ pair_next c.args.s.now c.args.left c.args.at c.args.count c.element.result c.element.ensures
     c.element-2.result c.in_ok-key.key c.in_ok-key.was c.element-2.ensures
-
-pub any_pair-returns-in_err-value : goal.any_pair-returns-in_err-value
-any_pair-returns-in_err-value t c =
-    err_again c.from_residual-in_err-value.result c.in_err-value.field-0.0 c.from_residual-in_err-value.ensures
-    (sym c.in_err-value.was
-    ∙ pair_next c.args.s.now c.args.left c.args.at c.args.count c.element.result c.element.ensures
-    c.element-2.result c.in_ok-key.key c.in_ok-key.was c.element-2.ensures)
 
 pub pairs-returns-in_err-next : goal.pairs-returns-in_err-next
 pairs-returns-in_err-next t c =
